@@ -1,0 +1,4 @@
+pub mod Part
+pub mod PartLaws
+pub mod Round
+pub mod Laws

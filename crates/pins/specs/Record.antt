@@ -1,0 +1,40 @@
+-- Trace sample: 32 bits, four bytes, most significant first.
+use Prim.Native.Nat.{ℕ, _+_, _/_, _%_, _^_}
+use mathlib.Core.Bool.{Bool, cond}
+use lib.Dec.{eqb}
+use Rattle.pins.specs.declared.record.Pins.{Pins}
+
+abbrev pub bit : ℕ → ℕ → Bool
+bit k x = eqb (x / 2 ^ k % 2) 1
+
+-- the 18 bits that D and Q have
+abbrev pub word : ℕ → ℕ
+word x = x % 2 ^ 18
+
+abbrev pub pinsOf : ℕ → Pins
+pinsOf x = record {
+  mrs = bit 31 x;
+  prs = bit 30 x;
+  wclk = bit 29 x;
+  rclk = bit 28 x;
+  wen = bit 27 x;
+  ren = bit 26 x;
+  ld = bit 25 x;
+  sen = bit 24 x;
+  rt = bit 23 x;
+  fwft = bit 22 x;
+  oe = bit 21 x;
+  skew = record { write = bit 20 x; read = bit 19 x };
+  d = word x;
+}
+
+-- a level put at bit k
+abbrev pub at : ℕ → Bool → ℕ
+at k level = cond level (2 ^ k) 0
+
+-- the record of the pins, with bit 18 zero
+unfoldable pub recordOf : Pins → ℕ
+recordOf p =
+    at 31 (p .mrs) + at 30 (p .prs) + at 29 (p .wclk) + at 28 (p .rclk) + at 27 (p .wen) + at 26 (p .ren) + at 25 (p .ld)
+    + at 24 (p .sen) + at 23 (p .rt) + at 22 (p .fwft) + at 21 (p .oe) + at 20 (p .skew .write) + at 19 (p .skew .read)
+    + word (p .d)

@@ -1,0 +1,6 @@
+pub mod Clocks
+pub mod Flags
+pub mod Stages
+pub mod Retransmit
+pub mod Read
+pub mod Write

@@ -1,0 +1,78 @@
+-- The two sides, RCLK rise in both timing modes; and Retransmit on the read side.
+use Prim.Native.Nat.{ℕ}
+use mathlib.Core.Bool.{Bool, not, cond, _&&_, _||_}
+use lib.Dec.{eqb}
+use Rattle.counts.specs.declared.round.WriteCount.{WriteCount}
+use Rattle.counts.specs.declared.round.ReadCount.{ReadCount}
+use Rattle.counts.specs.Round.{ahead, nextRead}
+use Rattle.pins.specs.declared.record.Pins.{Pins}
+use Rattle.pins.specs.Record.{word}
+use Rattle.sides.specs.declared.read.Mode.{Mode}
+use Rattle.sides.specs.declared.read.Mode.the-variants.{Standard, Fwft}
+use Rattle.sides.specs.declared.read.ReadSide.{ReadSide}
+use Rattle.sides.specs.declared.write.WriteSide.{WriteSide}
+use Rattle.sides.specs.Clocks.{readRises, writeRises}
+use Rattle.sides.specs.Flags.{paeLow}
+use Rattle.sides.specs.Retransmit.{isOver, setupAfter}
+use Rattle.sides.specs.Stages.{latestWrite, takenWrite}
+
+unfoldable pub retransmits : Pins → ReadSide → Bool
+retransmits p r = readRises p r && not (p .rt)
+
+-- the read side sees a word in memory: its second stage differs from the read count, and no retransmit setup runs
+unfoldable pub waits : ReadSide → Bool
+waits r = isOver (r .setup) && not (eqb (r .second .0) (r .count .0))
+
+-- the flag shows a word ready: EF HIGH when one is seen, OR LOW while one is untaken
+abbrev pub readyBy : Mode → Bool → Bool
+readyBy Standard waiting = waiting
+readyBy (Fwft untaken) waiting = untaken
+
+unfoldable pub ready : ReadSide → Bool
+ready r = readyBy (r .mode) (waits r)
+
+-- a read: LD HIGH, REN LOW, RT HIGH, and the flag showed a word ready before the sample
+unfoldable pub reads : Pins → ReadSide → Bool
+reads p r = readRises p r && p .ld && not (p .ren) && p .rt && ready r
+
+-- a word is delivered: in Standard by the read; in FWFT where one may come and the register then holds none untaken
+abbrev pub deliversBy : Mode → Bool → Bool → Bool
+deliversBy Standard may read = read
+deliversBy (Fwft untaken) may read = may && not (untaken && not read)
+
+unfoldable pub delivers : Pins → ReadSide → Bool
+delivers p r = deliversBy (r .mode) (readRises p r && p .rt && waits r) (reads p r)
+
+-- in FWFT a word stays untaken until it is read; a retransmit leaves none
+abbrev pub modeAfter : Mode → Bool → Bool → Bool → Mode
+modeAfter Standard retransmitted delivered read = Standard
+modeAfter (Fwft untaken) retransmitted delivered read = Fwft (not retransmitted && (delivered || untaken && not read))
+
+unfoldable pub countAfter : Bool → Bool → ReadCount → ReadCount
+countAfter retransmitted delivered count = cond retransmitted (record { 0 = 0 }) (nextRead delivered count)
+
+-- a delivered word is the low 18 bits of the one at the read count; else the register keeps its bits
+abbrev pub registerAfter : Bool → ℕ → ℕ → ℕ
+registerAfter delivered fetched output = cond delivered (word fetched) output
+
+unfoldable pub readCountAfter : Pins → ReadSide → ReadCount
+readCountAfter p r = countAfter (retransmits p r) (delivers p r) (r .count)
+
+-- after a rise the second stage holds what the first held
+unfoldable pub secondAfterRead : Pins → ReadSide → WriteCount
+secondAfterRead p r = cond (readRises p r) (r .first) (r .second)
+
+-- the read side after a sample outside reset; `n` and the write side are those before it
+unfoldable pub readAfter : ℕ → Pins → ℕ → WriteSide → ReadSide → ReadSide
+readAfter n p fetched w r = record {
+  level = p .rclk;
+  count = readCountAfter p r;
+  first = cond (readRises p r) (takenWrite (p .skew .read) (r .latest) (w .count)) (r .first);
+  second = secondAfterRead p r;
+  latest = latestWrite (readRises p r) (writeRises p w) (w .count) (r .latest);
+  setup = setupAfter (readRises p r) (p .rt) (r .setup);
+  pae = cond (readRises p r && isOver (setupAfter (readRises p r) (p .rt) (r .setup)))
+      (not (paeLow n (ahead (secondAfterRead p r) (readCountAfter p r)))) (r .pae);
+  mode = modeAfter (r .mode) (retransmits p r) (delivers p r) (reads p r);
+  output = registerAfter (delivers p r) fetched (r .output);
+}

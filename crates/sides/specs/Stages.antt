@@ -1,0 +1,31 @@
+-- The two sides: how one side sees the other's count.
+use mathlib.Core.Bool.{Bool, false, not, cond}
+use Rattle.counts.specs.declared.round.ReadCount.{ReadCount}
+use Rattle.counts.specs.declared.round.WriteCount.{WriteCount}
+use Rattle.sides.specs.declared.stages.ReadRise.{ReadRise}
+use Rattle.sides.specs.declared.stages.ReadRise.the-variants as readRise
+use Rattle.sides.specs.declared.stages.WriteRise.{WriteRise}
+use Rattle.sides.specs.declared.stages.WriteRise.the-variants as writeRise
+
+-- the first stage takes the other count as it stood before this sample; where the skew is missed, and the other clock
+-- has risen since, the count from before its latest rise
+abbrev pub takenRead : Bool → ReadRise → ReadCount → ReadCount
+takenRead met readRise.NoneSince count = count
+takenRead met (readRise.Before earlier) count = cond met count earlier
+
+abbrev pub takenWrite : Bool → WriteRise → WriteCount → WriteCount
+takenWrite met writeRise.NoneSince count = count
+takenWrite met (writeRise.Before earlier) count = cond met count earlier
+
+-- the count taken is that from before the latest rise
+abbrev pub looksPast : Bool → ReadRise → Bool
+looksPast met readRise.NoneSince = false
+looksPast met (readRise.Before earlier) = not met
+
+-- what is remembered after a sample, by whether the own clock and the other clock rise in it: of two rises in one
+-- sample the other counts as later
+abbrev pub latestRead : Bool → Bool → ReadCount → ReadRise → ReadRise
+latestRead own other count latest = cond other (readRise.Before count) (cond own readRise.NoneSince latest)
+
+abbrev pub latestWrite : Bool → Bool → WriteCount → WriteRise → WriteRise
+latestWrite own other count latest = cond other (writeRise.Before count) (cond own writeRise.NoneSince latest)

@@ -1,0 +1,145 @@
+// The two sides, RCLK rise in both timing modes; and Retransmit on the read side.
+ghost use Rattle.sides.specs.Read.{countAfter, delivers, deliversBy, modeAfter, readAfter, reads, ready, readyBy, registerAfter, retransmits, waits};
+ghost use mathlib.Core.Path.{_≡_};
+use super::retransmit::Setup;
+use super::stages::WriteRise;
+use super::write::WriteSide;
+use counts::round::ReadCount;
+use counts::round::WriteCount;
+use pins::record::Pins;
+
+// Timing modes. In FWFT the output register may hold a word that no read has taken yet; in Standard a word is taken as
+// it is delivered.
+pub enum Mode {
+    Standard,
+    Fwft { untaken: bool },
+}
+
+// `level` is RCLK's last accepted one; `pae` is the level of PAE.
+pub struct ReadSide {
+    pub level: bool,
+    pub count: ReadCount,
+    pub first: WriteCount,
+    pub second: WriteCount,
+    pub latest: WriteRise,
+    pub setup: Setup,
+    pub pae: bool,
+    pub mode: Mode,
+    pub output: u32,
+}
+
+pub fn is_retransmit(p: Pins, r: ReadSide) -> bool
+    ensures { λ b. ⌜ b ≡ retransmits p r ⌝ }
+{
+    super::clocks::read_rises(p, r) & !p.rt
+}
+
+pub fn is_ready(r: ReadSide) -> bool
+    ensures { λ b. ⌜ b ≡ ready r ⌝ }
+{
+    let mode = r.mode;
+    ready_by(mode, is_waiting(r))
+}
+
+pub fn is_read(p: Pins, r: ReadSide) -> bool
+    ensures { λ b. ⌜ b ≡ reads p r ⌝ }
+{
+    super::clocks::read_rises(p, r) & p.ld & !p.ren & p.rt & is_ready(r)
+}
+
+pub fn is_delivered(p: Pins, r: ReadSide) -> bool
+    ensures { λ b. ⌜ b ≡ delivers p r ⌝ }
+{
+    let mode = r.mode;
+    deliver_by(
+        mode,
+        super::clocks::read_rises(p, r) & p.rt & is_waiting(r),
+        is_read(p, r),
+    )
+}
+
+pub fn read_after(n: u16, p: Pins, fetched: u32, w: WriteSide, r: ReadSide) -> ReadSide
+    ensures { λ q. ⌜ q ≡ readAfter n p fetched w r ⌝ }
+{
+    let rises = super::clocks::read_rises(p, r);
+    let retransmits = is_retransmit(p, r);
+    let delivered = is_delivered(p, r);
+    let count = count_after(retransmits, delivered, r.count);
+    let latest = r.latest;
+    let taken = super::stages::take_write(p.skew.read, latest, w.count);
+    let first = super::stages::move_write(rises, taken, r.first);
+    let second = super::stages::move_write(rises, r.first, r.second);
+    let other = super::clocks::write_rises(p, w);
+    let remembered = super::stages::remember_write(rises, other, w.count, latest);
+    let before = r.setup;
+    let setup = super::retransmit::setup_after(rises, p.rt, before);
+    let over = super::retransmit::is_over(setup);
+    let low = super::flags::is_pae_low(n, counts::round::words_ahead(second, count));
+    let pae = super::stages::move_level(rises & over, !low, r.pae);
+    let held = r.mode;
+    let mode = mode_after(held, retransmits, delivered, is_read(p, r));
+    let output = register_after(delivered, fetched, r.output);
+    ReadSide {
+        level: p.rclk,
+        count: count,
+        first: first,
+        second: second,
+        latest: remembered,
+        setup: setup,
+        pae: pae,
+        mode: mode,
+        output: output,
+    }
+}
+
+fn is_waiting(r: ReadSide) -> bool
+    ensures { λ b. ⌜ b ≡ waits r ⌝ }
+{
+    let setup = r.setup;
+    super::retransmit::is_over(setup) & !(r.second.0 == r.count.0)
+}
+
+fn ready_by(mode: Mode, waiting: bool) -> bool
+    ensures { λ b. ⌜ b ≡ readyBy mode waiting ⌝ }
+{
+    match mode {
+        Mode::Standard => waiting,
+        Mode::Fwft { untaken } => untaken,
+    }
+}
+
+fn deliver_by(mode: Mode, may: bool, read: bool) -> bool
+    ensures { λ b. ⌜ b ≡ deliversBy mode may read ⌝ }
+{
+    match mode {
+        Mode::Standard => read,
+        Mode::Fwft { untaken } => may & !(untaken & !read),
+    }
+}
+
+fn mode_after(mode: Mode, retransmits: bool, delivered: bool, read: bool) -> Mode
+    ensures { λ q. ⌜ q ≡ modeAfter mode retransmits delivered read ⌝ }
+{
+    match mode {
+        Mode::Standard => Mode::Standard,
+        Mode::Fwft { untaken } => Mode::Fwft {
+            untaken: !retransmits & (delivered | untaken & !read),
+        },
+    }
+}
+
+fn count_after(retransmits: bool, delivered: bool, count: ReadCount) -> ReadCount
+    ensures { λ q. ⌜ q ≡ countAfter retransmits delivered count ⌝ }
+{
+    super::stages::move_read(
+        retransmits,
+        ReadCount(0),
+        counts::round::next_read(delivered, count),
+    )
+}
+
+fn register_after(delivered: bool, fetched: u32, output: u32) -> u32
+    ensures { λ q. ⌜ q ≡ registerAfter delivered fetched output ⌝ }
+{
+    if delivered { fetched % 262144 } else { output }
+}
