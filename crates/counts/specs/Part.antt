@@ -1,7 +1,7 @@
 -- Parts and paper authority.
-use Prim.Native.Nat.{ℕ, _^_}
-use mathlib.Core.Bool.{cond}
-use lib.Dec.{eqb}
+use Prim.Native.Nat.{ℕ, _*_, _/_, _%_, _^_}
+use mathlib.Core.Bool.{Bool, cond}
+use lib.Dec.{eqb, ltb}
 use Rattle.counts.specs.declared.part.Part.{Part}
 use Rattle.counts.specs.declared.part.Part.the-variants.{Idt72V255LA, Idt72V265LA}
 use Rattle.counts.specs.declared.part.Lookup.{Lookup}
@@ -25,7 +25,21 @@ placeBits Idt72V265LA = 14
 abbrev pub depthOf : Part → ℕ
 depthOf part = 2 ^ placeBits part
 
--- Offsets
+-- Offsets: how wide one is
 abbrev pub offsetBits : Part → ℕ
 offsetBits Idt72V255LA = 13
 offsetBits Idt72V265LA = 14
+
+-- Offsets: both together, as loaded bit by bit
+abbrev pub serialBits : Part → ℕ
+serialBits part = 2 * offsetBits part
+
+abbrev pub lowBits : ℕ → ℕ → ℕ
+lowBits bits x = x % 2 ^ bits
+
+-- what is left above the low bits
+abbrev pub aboveBits : ℕ → ℕ → ℕ
+aboveBits bits x = x / 2 ^ bits
+
+abbrev pub within : ℕ → ℕ → Bool
+within bits x = ltb x (2 ^ bits)

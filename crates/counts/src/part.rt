@@ -1,5 +1,5 @@
 // Parts and paper authority: which parts there are, and what each is looked up to.
-ghost use Rattle.counts.specs.Part.{partOf, depthOf, offsetBits};
+ghost use Rattle.counts.specs.Part.{aboveBits, depthOf, lowBits, offsetBits, partOf, serialBits, within};
 ghost use mathlib.Core.Path.{_≡_};
 
 pub enum Part {
@@ -33,11 +33,38 @@ pub fn depth(part: Part) -> u16
     }
 }
 
-pub fn offset_bits(part: Part) -> u8
-    ensures { λ r. ⌜ r ≡ offsetBits part ⌝ }
+pub fn serial_bits(part: Part) -> u8
+    ensures { λ r. ⌜ r ≡ serialBits part ⌝ }
 {
     match part {
-        Part::Idt72V255LA => 13,
-        Part::Idt72V265LA => 14,
+        Part::Idt72V255LA => 26,
+        Part::Idt72V265LA => 28,
+    }
+}
+
+pub fn low_offset(part: Part, x: u32) -> u16
+    ensures { λ r. ⌜ r ≡ lowBits (offsetBits part) x ⌝ }
+{
+    match part {
+        Part::Idt72V255LA => (x % 8192) as u16,
+        Part::Idt72V265LA => (x % 16384) as u16,
+    }
+}
+
+pub fn above_offset(part: Part, x: u32) -> u32
+    ensures { λ r. ⌜ r ≡ aboveBits (offsetBits part) x ⌝ }
+{
+    match part {
+        Part::Idt72V255LA => x / 8192,
+        Part::Idt72V265LA => x / 16384,
+    }
+}
+
+pub fn is_offset(part: Part, x: u16) -> bool
+    ensures { λ r. ⌜ r ≡ within (offsetBits part) x ⌝ }
+{
+    match part {
+        Part::Idt72V255LA => x < 8192,
+        Part::Idt72V265LA => x < 16384,
     }
 }

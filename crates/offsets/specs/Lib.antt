@@ -1,0 +1,4 @@
+pub mod Registers
+pub mod Loading
+pub mod Reading
+pub mod Fits
