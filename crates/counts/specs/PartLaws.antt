@@ -9,7 +9,7 @@ use Rattle.counts.specs.declared.part.Part.{Part}
 use Rattle.counts.specs.declared.part.Part.the-variants.{Idt72V255LA, Idt72V265LA}
 use Rattle.counts.specs.declared.part.Lookup.{Lookup}
 use Rattle.counts.specs.declared.part.Lookup.the-variants.{Known, Unknown}
-use Rattle.counts.specs.Part.{numberOf, partOf, placeBits}
+use Rattle.counts.specs.Part.{depthOf, numberOf, partOf, placeBits}
 use Rattle.counts.specs.Round.{width}
 
 pub own-number : (part : Part) → partOf (numberOf part) ≡ Known part
@@ -33,6 +33,10 @@ no-other-number number part = known-by number part (eqb number 255) (eqb number 
 -- the low 16 bits of this number are 255
 pub compared-in-full : partOf 65791 ≡ Unknown
 compared-in-full = refl
+
+pub two-at-least : (part : Part) → 2 ≤ depthOf part
+two-at-least Idt72V255LA = omega arith
+two-at-least Idt72V265LA = omega arith
 
 -- bits of a count beyond those of a place
 abbrev pub roundBits : Part → ℕ

@@ -1,0 +1,67 @@
+-- What is turned away: 5 to 10, in the table's order.
+use Prim.Native.Nat.{ℕ, _+_, _-_}
+use mathlib.Core.Bool.{Bool, not, cond, _&&_, _||_}
+use mathlib.Core.Path.{_≡_}
+use Rattle.counts.specs.declared.part.Part.{Part}
+use Rattle.counts.specs.Part.{depthOf}
+use Rattle.offsets.specs.declared.registers.Method.{Method}
+use Rattle.offsets.specs.declared.registers.Method.the-variants.{Parallel, Serial}
+use Rattle.pins.specs.declared.record.Pins.{Pins}
+use Rattle.sides.specs.declared.read.Mode.{Mode}
+use Rattle.sides.specs.declared.read.Mode.the-variants.{Standard, Fwft}
+use Rattle.sides.specs.Clocks.{readRises, writeRises}
+use Rattle.sides.specs.Read.{retransmits}
+use Rattle.sides.specs.Retransmit.{isSeen}
+use Rattle.sides.specs.Write.{acceptedMore, acceptedNone}
+use Rattle.chip.specs.declared.state.State.{State}
+
+abbrev pub refusesFive : Pins → State → Bool
+refusesFive p s = not (s .started) && p .mrs
+
+-- more than one of the three is LOW
+abbrev pub severalLow : Bool → Bool → Bool → Bool
+severalLow wen ren sen = not wen && not ren || not wen && not sen || not ren && not sen
+
+unfoldable pub refusesSix : Pins → State → Bool
+refusesSix p s = (writeRises p (s .write) || readRises p (s .read)) && not (p .ld) && severalLow (p .wen) (p .ren) (p .sen)
+
+-- the level of the pin that the other loading method uses
+abbrev pub wrongPin : Method → Pins → Bool
+wrongPin Parallel p = p .sen
+wrongPin Serial p = p .wen
+
+unfoldable pub refusesSeven : Pins → State → Bool
+refusesSeven p s = writeRises p (s .write) && not (p .ld) && not (wrongPin (s .offsets .method) p)
+
+unfoldable pub refusesEight : Pins → State → Bool
+refusesEight p s = retransmits p (s .read) && (not (p .ren) || not (p .wen))
+
+-- D: the depth in Standard and one more in FWFT
+abbrev pub deepest : ℕ → Mode → ℕ
+deepest depth Standard = depth
+deepest depth (Fwft untaken) = depth + 1
+
+abbrev pub mostAccepted : ℕ → Mode → ℕ
+mostAccepted depth mode = deepest depth mode - 2
+
+unfoldable pub refusesNine : ℕ → Pins → State → Bool
+refusesNine depth p s =
+    retransmits p (s .read) && (acceptedNone (s .write) || acceptedMore (mostAccepted depth (s .read .mode)) (s .write))
+
+unfoldable pub refusesTen : Pins → State → Bool
+refusesTen p s = writeRises p (s .write) && p .ld && not (p .wen) && not (isSeen (s .write .view))
+
+-- the number of the first that applies, 0 for none; 6 to 10 only with MRS and PRS HIGH
+unfoldable pub refusalOf : Part → Pins → State → ℕ
+refusalOf part p s =
+    cond (refusesFive p s) 5
+    (cond (p .mrs && p .prs)
+    (cond (refusesSix p s) 6
+    (cond (refusesSeven p s) 7
+    (cond (refusesEight p s) 8
+    (cond (refusesNine (depthOf part) p s) 9
+    (cond (refusesTen p s) 10 0)))))
+    0)
+
+abbrev pub Refuses : Part → Pins → State → ℕ → Type 0
+Refuses part p s r = r ≡ refusalOf part p s

@@ -1,0 +1,70 @@
+-- What is turned away, 3, on widths: a state that passes them keeps passing them.
+use Prim.Native.Nat.{ℕ, _^_, _<_}
+use mathlib.Core.Bool.{Bool, true, false, cond, _&&_, and-eq-true-iff}
+use mathlib.Core.Path.{_≡_, refl}
+use lib.Dec.{ltb}
+use borrow.Author.Tests.{lt-ltb}
+use native.Mathlib.Omega.{arith}
+use Rattle.counts.specs.declared.part.Part.{Part}
+use Rattle.offsets.specs.Fits.{defaults-fit, offsets-stay, shown-stays}
+use Rattle.offsets.specs.Reading.{shownFits}
+use Rattle.offsets.specs.Registers.{fit}
+use Rattle.pins.specs.declared.record.Pins.{Pins}
+use Rattle.pins.specs.Record.{word}
+use Rattle.sides.specs.Clocks.{readRises, writeRises}
+use Rattle.sides.specs.Read.{delivers, readAfter}
+use Rattle.chip.specs.declared.state.State.{State}
+use Rattle.chip.specs.Advance.{advanced, running, stateAfter}
+use Rattle.chip.specs.Reset.{masterReset, partialReset}
+use Rattle.chip.specs.State.{widths}
+
+-- the test taken apart
+pub record Widths (part : Part) (s : State) : Type 0 where
+  pub offsets : fit part (s .offsets) ≡ true
+  pub shown : shownFits part (s .reading .shows) ≡ true
+  pub output : ltb (s .read .output) (2 ^ 18) ≡ true
+
+pub apart : (part : Part) (s : State) → widths part s ≡ true → Widths part s
+unfolding widths
+apart part s e =
+    let all = and-eq-true-iff (fit part (s .offsets) && shownFits part (s .reading .shows)) (ltb (s .read .output) (2 ^ 18)) .0 e in
+    let both = and-eq-true-iff (fit part (s .offsets)) (shownFits part (s .reading .shows)) .0 (all .0) in
+    record { offsets = both .0; shown = both .1; output = all .1 }
+
+together : (part : Part) (s : State) → Widths part s → widths part s ≡ true
+unfolding widths
+together part s w = simp (w .offsets, w .shown, w .output)
+
+output-stays : (delivered : Bool) (fetched output : ℕ) → ltb output (2 ^ 18) ≡ true → ltb (cond delivered (word fetched) output) (2 ^ 18) ≡ true
+output-stays true fetched output e = lt-ltb (word fetched) (2 ^ 18) (omega arith)
+output-stays false fetched output e = e
+
+running-widths : (part : Part) (p : Pins) (fetched : ℕ) (s : State) → Widths part s → Widths part (running part p fetched s)
+unfolding running readAfter
+running-widths part p fetched s w = record {
+  offsets = offsets-stay part p (writeRises p (s .write)) (s .offsets) (w .offsets);
+  shown = shown-stays part p (readRises p (s .read)) (s .offsets) (s .reading) (w .offsets) (w .shown);
+  output = output-stays (delivers p (s .read)) fetched (s .read .output) (w .output);
+}
+
+master-widths : (part : Part) (p : Pins) → Widths part (masterReset p)
+unfolding masterReset
+master-widths part p = record { offsets = defaults-fit part (p .ld); shown = refl; output = refl }
+
+partial-widths : (part : Part) (p : Pins) (s : State) → Widths part s → Widths part (partialReset p s)
+unfolding partialReset
+partial-widths part p s w = record { offsets = w .offsets; shown = refl; output = refl }
+
+after-widths : (part : Part) (mrs prs : Bool) (run kept fresh : State) → Widths part run → Widths part kept → Widths part fresh
+    → Widths part (cond mrs (cond prs run kept) fresh)
+after-widths part true true run kept fresh r k f = r
+after-widths part true false run kept fresh r k f = k
+after-widths part false prs run kept fresh r k f = f
+
+pub widths-stay : (part : Part) (p : Pins) (fetched : ℕ) (s : State) → widths part s ≡ true → widths part (advanced part p fetched s .state) ≡ true
+unfolding advanced stateAfter
+widths-stay part p fetched s e =
+    let w = apart part s e in
+    together part (stateAfter part p fetched s)
+    (after-widths part (p .mrs) (p .prs) (running part p fetched s) (partialReset p s) (masterReset p)
+    (running-widths part p fetched s w) (partial-widths part p s w) (master-widths part p))

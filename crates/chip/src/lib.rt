@@ -1,0 +1,6 @@
+// The chip by value: one sample's refusal, and what an accepted sample gives.
+pub mod advance;
+pub mod answer;
+pub mod refuse;
+pub mod reset;
+pub mod state;
