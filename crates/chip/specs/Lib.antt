@@ -4,3 +4,6 @@ pub mod Refuse
 pub mod Answer
 pub mod Advance
 pub mod Widths
+pub mod Laws
+pub mod ResetLaws
+pub mod Unique

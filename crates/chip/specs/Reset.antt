@@ -3,82 +3,67 @@ use mathlib.Core.Bool.{Bool, true, false, cond}
 use mathlib.Core.Path.{_≡_}
 use Rattle.offsets.specs.Reading.{ended}
 use Rattle.offsets.specs.Registers.{defaults}
+use Rattle.offsets.specs.declared.reading.Reading.{Reading}
 use Rattle.offsets.specs.declared.registers.Next.the-variants.{N}
+use Rattle.offsets.specs.declared.registers.Offsets.{Offsets}
 use Rattle.pins.specs.declared.record.Pins.{Pins}
 use Rattle.sides.specs.declared.read.Mode.{Mode}
 use Rattle.sides.specs.declared.read.Mode.the-variants.{Standard, Fwft}
-use Rattle.sides.specs.declared.read.ReadSide.{ReadSide}
 use Rattle.sides.specs.declared.retransmit.Setup.the-variants.{Over}
 use Rattle.sides.specs.declared.retransmit.View.the-variants.{Seen}
 use Rattle.sides.specs.declared.stages.ReadRise.the-variants as readRise
 use Rattle.sides.specs.declared.stages.WriteRise.the-variants as writeRise
-use Rattle.sides.specs.declared.write.WriteSide.{WriteSide}
 use Rattle.chip.specs.declared.state.State.{State}
 
--- both resets clear counts, stages, any retransmit in progress and the output register, and remember the clocks' levels
-abbrev pub clearedWrite : Bool → WriteSide
-clearedWrite level = record {
-  level = level;
-  count = record { 0 = 0 };
-  passed = false;
-  first = record { 0 = 0 };
-  second = record { 0 = 0 };
-  latest = readRise.NoneSince;
-  view = Seen;
-  paf = true;
+-- what both resets clear, with the clocks' levels remembered
+unfoldable pub cleared : Bool → Bool → Bool → Mode → Offsets → Reading → State
+cleared started wclk rclk mode offsets reading = record {
+  started = started;
+  write = record {
+    level = wclk;
+    count = record { 0 = 0 };
+    passed = false;
+    first = record { 0 = 0 };
+    second = record { 0 = 0 };
+    latest = readRise.NoneSince;
+    view = Seen;
+    paf = true;
+  };
+  read = record {
+    level = rclk;
+    count = record { 0 = 0 };
+    first = record { 0 = 0 };
+    second = record { 0 = 0 };
+    latest = writeRise.NoneSince;
+    setup = Over;
+    pae = false;
+    mode = mode;
+    output = 0;
+  };
+  offsets = offsets;
+  reading = reading;
 }
 
-abbrev pub clearedRead : Bool → Mode → ReadSide
-clearedRead level mode = record {
-  level = level;
-  count = record { 0 = 0 };
-  first = record { 0 = 0 };
-  second = record { 0 = 0 };
-  latest = writeRise.NoneSince;
-  setup = Over;
-  pae = false;
-  mode = mode;
-  output = 0;
-}
-
--- MRS: FWFT selects the timing mode
+-- by FWFT at a Master Reset
 abbrev pub selectedMode : Bool → Mode
 selectedMode fwft = cond fwft (Fwft false) Standard
 
--- MRS: LD gives the offsets and the loading method, and the sequences start over
+-- MRS: FWFT selects the mode, LD the offsets and the method, and both sequences start over
 unfoldable pub masterReset : Pins → State
-masterReset p = record {
-  started = true;
-  write = clearedWrite (p .wclk);
-  read = clearedRead (p .rclk) (selectedMode (p .fwft));
-  offsets = defaults (p .ld);
-  reading = ended N;
-}
+masterReset p = cleared true (p .wclk) (p .rclk) (selectedMode (p .fwft)) (defaults (p .ld)) (ended N)
 
--- the mode that PRS keeps, with no word untaken
+-- the same mode, with no word untaken
 abbrev pub keptMode : Mode → Mode
 keptMode Standard = Standard
 keptMode (Fwft untaken) = Fwft false
 
--- PRS: mode, method, offsets and the sequences' places stay
+-- PRS: mode, method, offsets and the places of both sequences stay
 unfoldable pub partialReset : Pins → State → State
-partialReset p s = record {
-  started = s .started;
-  write = clearedWrite (p .wclk);
-  read = clearedRead (p .rclk) (keptMode (s .read .mode));
-  offsets = s .offsets;
-  reading = ended (s .reading .next);
-}
+partialReset p s = cleared (s .started) (p .wclk) (p .rclk) (keptMode (s .read .mode)) (s .offsets) (ended (s .reading .next))
 
--- at power-up both clocks count as HIGH, and there has been no Master Reset; the rest is as a reset leaves it
+-- both clocks count as HIGH and there has been no Master Reset; no sample tells the rest before one comes
 unfoldable pub poweredUp : State
-poweredUp = record {
-  started = false;
-  write = clearedWrite true;
-  read = clearedRead true Standard;
-  offsets = defaults false;
-  reading = ended N;
-}
+poweredUp = cleared false true true Standard (defaults false) (ended N)
 
 abbrev pub PoweredUp : State → Type 0
 PoweredUp r = r ≡ poweredUp

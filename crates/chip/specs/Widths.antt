@@ -15,7 +15,7 @@ use Rattle.sides.specs.Clocks.{readRises, writeRises}
 use Rattle.sides.specs.Read.{delivers, readAfter}
 use Rattle.chip.specs.declared.state.State.{State}
 use Rattle.chip.specs.Advance.{advanced, running, stateAfter}
-use Rattle.chip.specs.Reset.{masterReset, partialReset}
+use Rattle.chip.specs.Reset.{cleared, masterReset, partialReset}
 use Rattle.chip.specs.State.{widths}
 
 -- the test taken apart
@@ -48,11 +48,11 @@ running-widths part p fetched s w = record {
 }
 
 master-widths : (part : Part) (p : Pins) → Widths part (masterReset p)
-unfolding masterReset
+unfolding masterReset cleared
 master-widths part p = record { offsets = defaults-fit part (p .ld); shown = refl; output = refl }
 
 partial-widths : (part : Part) (p : Pins) (s : State) → Widths part s → Widths part (partialReset p s)
-unfolding partialReset
+unfolding partialReset cleared
 partial-widths part p s w = record { offsets = w .offsets; shown = refl; output = refl }
 
 after-widths : (part : Part) (mrs prs : Bool) (run kept fresh : State) → Widths part run → Widths part kept → Widths part fresh

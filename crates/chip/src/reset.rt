@@ -1,10 +1,11 @@
 // Resets, and power-up.
-ghost use Rattle.chip.specs.Reset.{PoweredUp, clearedRead, clearedWrite, keptMode, masterReset, partialReset, selectedMode};
+ghost use Rattle.chip.specs.Reset.{PoweredUp, cleared, keptMode, masterReset, partialReset, selectedMode};
 ghost use mathlib.Core.Path.{_≡_};
-use super::state::State;
 use counts::round::ReadCount;
 use counts::round::WriteCount;
+use offsets::reading::Reading;
 use offsets::registers::Next;
+use offsets::registers::Offsets;
 use pins::record::Pins;
 use sides::read::Mode;
 use sides::read::ReadSide;
@@ -13,88 +14,72 @@ use sides::retransmit::View;
 use sides::stages::ReadRise;
 use sides::stages::WriteRise;
 use sides::write::WriteSide;
+use super::state::State;
 
 pub fn power_up() -> State
     ensures { λ r. ⌜ PoweredUp r ⌝ }
 {
-    let write = clear_write(true);
-    let read = clear_read(true, Mode::Standard);
     let offsets = offsets::registers::reset_offsets(false);
     let reading = offsets::reading::end_showing(Next::N);
-    State {
-        started: false,
-        write: write,
-        read: read,
-        offsets: offsets,
-        reading: reading,
-    }
+    clear(false, true, true, Mode::Standard, offsets, reading)
 }
 
 pub fn reset_master(p: Pins) -> State
     ensures { λ r. ⌜ r ≡ masterReset p ⌝ }
 {
     let mode = select_mode(p.fwft);
-    let write = clear_write(p.wclk);
-    let read = clear_read(p.rclk, mode);
     let offsets = offsets::registers::reset_offsets(p.ld);
     let reading = offsets::reading::end_showing(Next::N);
-    State {
-        started: true,
-        write: write,
-        read: read,
-        offsets: offsets,
-        reading: reading,
-    }
+    clear(true, p.wclk, p.rclk, mode, offsets, reading)
 }
 
 pub fn reset_partial(p: Pins, s: State) -> State
     ensures { λ r. ⌜ r ≡ partialReset p s ⌝ }
 {
-    let before = s.read;
-    let mode = before.mode;
-    let kept = s.reading;
-    let next = kept.next;
-    let write = clear_write(p.wclk);
-    let read = clear_read(p.rclk, keep_mode(mode));
-    let offsets = s.offsets;
+    let read = s.read;
+    let before = read.mode;
+    let mode = keep_mode(before);
+    let shown = s.reading;
+    let next = shown.next;
     let reading = offsets::reading::end_showing(next);
+    clear(s.started, p.wclk, p.rclk, mode, s.offsets, reading)
+}
+
+fn clear(
+    started: bool,
+    wclk: bool,
+    rclk: bool,
+    mode: Mode,
+    offsets: Offsets,
+    reading: Reading,
+) -> State
+    ensures { λ r. ⌜ r ≡ cleared started wclk rclk mode offsets reading ⌝ }
+{
     State {
-        started: s.started,
-        write: write,
-        read: read,
+        started: started,
+        write: WriteSide {
+            level: wclk,
+            count: WriteCount(0),
+            passed: false,
+            first: ReadCount(0),
+            second: ReadCount(0),
+            latest: ReadRise::NoneSince,
+            view: View::Seen,
+            paf: true,
+        },
+        read: ReadSide {
+            level: rclk,
+            count: ReadCount(0),
+            first: WriteCount(0),
+            second: WriteCount(0),
+            latest: WriteRise::NoneSince,
+            setup: Setup::Over,
+            pae: false,
+            mode: mode,
+            output: 0,
+        },
         offsets: offsets,
         reading: reading,
-    }
-}
-
-fn clear_write(level: bool) -> WriteSide
-    ensures { λ r. ⌜ r ≡ clearedWrite level ⌝ }
-{
-    WriteSide {
-        level: level,
-        count: WriteCount(0),
-        passed: false,
-        first: ReadCount(0),
-        second: ReadCount(0),
-        latest: ReadRise::NoneSince,
-        view: View::Seen,
-        paf: true,
-    }
-}
-
-fn clear_read(level: bool, mode: Mode) -> ReadSide
-    ensures { λ r. ⌜ r ≡ clearedRead level mode ⌝ }
-{
-    ReadSide {
-        level: level,
-        count: ReadCount(0),
-        first: WriteCount(0),
-        second: WriteCount(0),
-        latest: WriteRise::NoneSince,
-        setup: Setup::Over,
-        pae: false,
-        mode: mode,
-        output: 0,
     }
 }
 

@@ -4,3 +4,4 @@ pub mod Stages
 pub mod Retransmit
 pub mod Read
 pub mod Write
+pub mod SinceReset
