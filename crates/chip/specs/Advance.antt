@@ -31,11 +31,11 @@ running part p fetched s = record {
   reading = readingAfter p (readRises p (s .read)) (s .offsets) (s .reading);
 }
 
--- MRS LOW wins over PRS LOW
+-- by the two reset pins, of which MRS decides first
 unfoldable pub stateAfter : Part → Pins → ℕ → State → State
 stateAfter part p fetched s = cond (p .mrs) (cond (p .prs) (running part p fetched s) (partialReset p s)) (masterReset p)
 
--- an accepted word is the one on D, at the write count modulo the depth; a reset keeps every word of the memory
+-- only an accepted word is stored, and none in a reset
 unfoldable pub storeOf : Part → Pins → State → Store
 storeOf part p s = cond (p .mrs && p .prs && accepts (depthOf part) p (s .write))
     (Put (placeOf (depthOf part) (s .write .count .0)) (word (p .d))) Keep
@@ -44,6 +44,9 @@ storeOf part p s = cond (p .mrs && p .prs && accepts (depthOf part) p (s .write)
 abbrev pub stored : Store → List ℕ → List ℕ
 stored Keep memory = memory
 stored (Put place value) memory = set memory place value
+
+unfoldable pub memoryAfter : Part → Pins → State → List ℕ → List ℕ
+memoryAfter part p s = stored (storeOf part p s)
 
 unfoldable pub advanced : Part → Pins → ℕ → State → Advanced
 advanced part p fetched s = record {

@@ -1,50 +1,41 @@
 -- What callers may know of a refusal, an answer and a store without opening their definitions.
 use Prim.Native.Nat.{ℕ, _^_, _<_}
-use mathlib.Core.Bool.{Bool, true, false, not, cond, _&&_, _||_}
-use mathlib.Core.Path.{_≡_, refl, sym, ap, _∙_}
-use lib.Dec.{eqb, ltb}
-use lib.Pow.{pow-pos}
+use mathlib.Core.Bool.{Bool, true, false, cond, _&&_}
+use mathlib.Core.Path.{_≡_, _∙_}
 use borrow.Author.Tests.{ltb-true}
-use native.Mathlib.Nat.{mod-lt, mod-eq-of-lt}
 use native.Mathlib.Omega.{arith}
 use Rattle.counts.specs.declared.part.Part.{Part}
 use Rattle.counts.specs.declared.part.Part.the-variants.{Idt72V255LA, Idt72V265LA}
 use Rattle.counts.specs.Laws.{place-below}
 use Rattle.counts.specs.Part.{depthOf, offsetBits, placeBits, within}
-use Rattle.counts.specs.Round.{placeOf, width}
+use Rattle.counts.specs.Round.{placeOf}
 use Rattle.offsets.specs.Reading.{shown, shownFits}
 use Rattle.offsets.specs.declared.reading.Shows.{Shows}
 use Rattle.offsets.specs.declared.reading.Shows.the-variants.{Register, Offset}
 use Rattle.pins.specs.declared.record.Pins.{Pins}
-use Rattle.pins.specs.Answer.{packed}
 use Rattle.pins.specs.Laws.{laid}
-use Rattle.pins.specs.Record.{word}
-use Rattle.sides.specs.declared.read.Mode.{Mode}
-use Rattle.sides.specs.declared.read.Mode.the-variants.{Standard, Fwft}
-use Rattle.sides.specs.Read.{retransmits}
-use Rattle.sides.specs.SinceReset.{Keeps, more-exact, none-exact}
+use Rattle.pins.specs.Record.{isWord, word}
 use Rattle.sides.specs.Write.{accepts}
 use Rattle.chip.specs.declared.advance.Store.{Store}
 use Rattle.chip.specs.declared.advance.Store.the-variants.{Keep, Put}
 use Rattle.chip.specs.declared.state.State.{State}
 use Rattle.chip.specs.Advance.{storeOf}
 use Rattle.chip.specs.Answer.{answerOf, linesOf}
-use Rattle.chip.specs.Refuse.{mostAccepted, refusesNine}
 use Rattle.chip.specs.State.{widths}
 use Rattle.chip.specs.Widths.{apart}
 
 -- a word goes to a place of the memory, with nothing above its 18 bits
-abbrev pub Within : Part → Store → Type 0
-Within part Keep = Unit {0}
-Within part (Put place value) = (place < depthOf part) × (value < 2 ^ 18)
+abbrev pub Placed : Part → Store → Type 0
+Placed part Keep = Unit {0}
+Placed part (Put place value) = (place < depthOf part) × (value < 2 ^ 18)
 
-within-by : (part : Part) (stores : Bool) (count d : ℕ) → Within part (cond stores (Put (placeOf (depthOf part) count) (word d)) Keep)
-within-by part true count d = (place-below (placeBits part) count, omega arith)
-within-by part false count d = tt
+placed-by : (part : Part) (stores : Bool) (count d : ℕ) → Placed part (cond stores (Put (placeOf (depthOf part) count) (word d)) Keep)
+placed-by part true count d = (place-below (placeBits part) count, omega arith)
+placed-by part false count d = tt
 
-pub store-within : (part : Part) (p : Pins) (s : State) → Within part (storeOf part p s)
+pub store-placed : (part : Part) (p : Pins) (s : State) → Placed part (storeOf part p s)
 unfolding storeOf
-store-within part p s = within-by part (p .mrs && p .prs && accepts (depthOf part) p (s .write)) (s .write .count .0) (p .d)
+store-placed part p s = placed-by part (p .mrs && p .prs && accepts (depthOf part) p (s .write)) (s .write .count .0) (p .d)
 
 pub answer-whole : (part : Part) (p : Pins) (s : State) → answerOf part p s < 2 ^ 24
 unfolding answerOf
@@ -59,7 +50,7 @@ offset-narrow : (part : Part) (offset : ℕ) → within (offsetBits part) offset
 offset-narrow Idt72V255LA offset e = let h = ltb-true offset (2 ^ 13) e in omega arith
 offset-narrow Idt72V265LA offset e = let h = ltb-true offset (2 ^ 14) e in omega arith
 
-shown-narrow : (part : Part) (shows : Shows) (output : ℕ) → shownFits part shows ≡ true → ltb output (2 ^ 18) ≡ true
+shown-narrow : (part : Part) (shows : Shows) (output : ℕ) → shownFits part shows ≡ true → isWord output ≡ true
     → word (shown shows output) ≡ shown shows output
 shown-narrow part Register output e f = let h = ltb-true output (2 ^ 18) f in omega arith
 shown-narrow part (Offset offset) output e f = offset-narrow part offset e
@@ -71,18 +62,3 @@ unfolding answerOf linesOf
 shown-given part p s e low =
     let w = apart part s e in
     laid (linesOf part (p .oe) s) .q ∙ simp low (shown-narrow part (s .reading .shows) (s .read .output) (w .shown) (w .output))
-
-most-below : (part : Part) (mode : Mode) → mostAccepted (depthOf part) mode < width
-most-below Idt72V255LA Standard = omega arith
-most-below Idt72V255LA (Fwft untaken) = omega arith
-most-below Idt72V265LA Standard = omega arith
-most-below Idt72V265LA (Fwft untaken) = omega arith
-
--- What is turned away, 9: judged by the true number of words accepted since reset, however large
-pub nine-exact : (accepted : ℕ) (part : Part) (p : Pins) (s : State) → Keeps accepted (s .write)
-    → refusesNine (depthOf part) p s
-    ≡ retransmits p (s .read) && (eqb accepted 0 || ltb (mostAccepted (depthOf part) (s .read .mode)) accepted)
-unfolding refusesNine
-nine-exact accepted part p s k =
-    rw (none-exact accepted (s .write) k,
-    more-exact (mostAccepted (depthOf part) (s .read .mode)) accepted (s .write) (most-below part (s .read .mode)) k)

@@ -6,4 +6,5 @@ pub mod Advance
 pub mod Widths
 pub mod Laws
 pub mod ResetLaws
+pub mod SinceReset
 pub mod Unique

@@ -11,7 +11,7 @@ use Rattle.sides.specs.declared.read.Mode.{Mode}
 use Rattle.sides.specs.declared.read.Mode.the-variants.{Standard, Fwft}
 use Rattle.sides.specs.Clocks.{readRises, writeRises}
 use Rattle.sides.specs.Read.{retransmits}
-use Rattle.sides.specs.Retransmit.{isSeen}
+use Rattle.views.specs.Retransmit.{isSeen}
 use Rattle.sides.specs.Write.{acceptedMore, acceptedNone}
 use Rattle.chip.specs.declared.state.State.{State}
 
@@ -25,33 +25,34 @@ severalLow wen ren sen = not wen && not ren || not wen && not sen || not ren && 
 unfoldable pub refusesSix : Pins → State → Bool
 refusesSix p s = (writeRises p (s .write) || readRises p (s .read)) && not (p .ld) && severalLow (p .wen) (p .ren) (p .sen)
 
--- the level of the pin that the other loading method uses
-abbrev pub wrongPin : Method → Pins → Bool
-wrongPin Parallel p = p .sen
-wrongPin Serial p = p .wen
+-- the pin of the loading method that was not selected is LOW
+abbrev pub asksOther : Method → Pins → Bool
+asksOther Parallel p = not (p .sen)
+asksOther Serial p = not (p .wen)
 
 unfoldable pub refusesSeven : Pins → State → Bool
-refusesSeven p s = writeRises p (s .write) && not (p .ld) && not (wrongPin (s .offsets .method) p)
+refusesSeven p s = writeRises p (s .write) && not (p .ld) && asksOther (s .offsets .method) p
 
 unfoldable pub refusesEight : Pins → State → Bool
 refusesEight p s = retransmits p (s .read) && (not (p .ren) || not (p .wen))
 
--- D: the depth in Standard and one more in FWFT
+-- D, which counts the output register in FWFT
 abbrev pub deepest : ℕ → Mode → ℕ
 deepest depth Standard = depth
 deepest depth (Fwft untaken) = depth + 1
 
-abbrev pub mostAccepted : ℕ → Mode → ℕ
-mostAccepted depth mode = deepest depth mode - 2
+-- the most words with which a retransmit is taken
+abbrev pub retransmitMost : ℕ → Mode → ℕ
+retransmitMost depth mode = deepest depth mode - 2
 
 unfoldable pub refusesNine : ℕ → Pins → State → Bool
 refusesNine depth p s =
-    retransmits p (s .read) && (acceptedNone (s .write) || acceptedMore (mostAccepted depth (s .read .mode)) (s .write))
+    retransmits p (s .read) && (acceptedNone (s .write) || acceptedMore (retransmitMost depth (s .read .mode)) (s .write))
 
 unfoldable pub refusesTen : Pins → State → Bool
 refusesTen p s = writeRises p (s .write) && p .ld && not (p .wen) && not (isSeen (s .write .view))
 
--- the number of the first that applies, 0 for none; 6 to 10 only with MRS and PRS HIGH
+-- the first number that applies, or 0; a reset passes over all but 5
 unfoldable pub refusalOf : Part → Pins → State → ℕ
 refusalOf part p s =
     cond (refusesFive p s) 5

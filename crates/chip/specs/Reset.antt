@@ -9,10 +9,10 @@ use Rattle.offsets.specs.declared.registers.Offsets.{Offsets}
 use Rattle.pins.specs.declared.record.Pins.{Pins}
 use Rattle.sides.specs.declared.read.Mode.{Mode}
 use Rattle.sides.specs.declared.read.Mode.the-variants.{Standard, Fwft}
-use Rattle.sides.specs.declared.retransmit.Setup.the-variants.{Over}
-use Rattle.sides.specs.declared.retransmit.View.the-variants.{Seen}
-use Rattle.sides.specs.declared.stages.ReadRise.the-variants as readRise
-use Rattle.sides.specs.declared.stages.WriteRise.the-variants as writeRise
+use Rattle.views.specs.declared.retransmit.Setup.the-variants.{Over}
+use Rattle.views.specs.declared.retransmit.View.the-variants.{Seen}
+use Rattle.views.specs.declared.stages.ReadRise.the-variants as readRise
+use Rattle.views.specs.declared.stages.WriteRise.the-variants as writeRise
 use Rattle.chip.specs.declared.state.State.{State}
 
 -- what both resets clear, with the clocks' levels remembered
@@ -22,7 +22,7 @@ cleared started wclk rclk mode offsets reading = record {
   write = record {
     level = wclk;
     count = record { 0 = 0 };
-    passed = false;
+    wrapped = false;
     first = record { 0 = 0 };
     second = record { 0 = 0 };
     latest = readRise.NoneSince;
@@ -48,7 +48,7 @@ cleared started wclk rclk mode offsets reading = record {
 abbrev pub selectedMode : Bool → Mode
 selectedMode fwft = cond fwft (Fwft false) Standard
 
--- MRS: FWFT selects the mode, LD the offsets and the method, and both sequences start over
+-- MRS: mode, offsets, method and sequences anew, by FWFT and LD
 unfoldable pub masterReset : Pins → State
 masterReset p = cleared true (p .wclk) (p .rclk) (selectedMode (p .fwft)) (defaults (p .ld)) (ended N)
 
@@ -57,11 +57,11 @@ abbrev pub keptMode : Mode → Mode
 keptMode Standard = Standard
 keptMode (Fwft untaken) = Fwft false
 
--- PRS: mode, method, offsets and the places of both sequences stay
+-- PRS: only what is cleared changes, and an offset is no longer shown
 unfoldable pub partialReset : Pins → State → State
 partialReset p s = cleared (s .started) (p .wclk) (p .rclk) (keptMode (s .read .mode)) (s .offsets) (ended (s .reading .next))
 
--- both clocks count as HIGH and there has been no Master Reset; no sample tells the rest before one comes
+-- no Master Reset yet, WCLK HIGH, RCLK HIGH; a Master Reset decides the rest before any answer depends on it
 unfoldable pub poweredUp : State
 poweredUp = cleared false true true Standard (defaults false) (ended N)
 

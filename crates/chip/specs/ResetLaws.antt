@@ -12,8 +12,7 @@ use Rattle.pins.specs.declared.answer.Lines.{Lines}
 use Rattle.pins.specs.declared.record.Pins.{Pins}
 use Rattle.sides.specs.declared.read.Mode.{Mode}
 use Rattle.sides.specs.declared.read.Mode.the-variants.{Standard, Fwft}
-use Rattle.sides.specs.Read.{ready, waits}
-use Rattle.sides.specs.SinceReset.{Keeps}
+use Rattle.sides.specs.Read.{ready, seesWord}
 use Rattle.sides.specs.Write.{full}
 use Rattle.chip.specs.declared.state.State.{State}
 use Rattle.chip.specs.Answer.{linesOf}
@@ -24,14 +23,14 @@ abbrev pub isStandard : Mode → Bool
 isStandard Standard = true
 isStandard (Fwft untaken) = false
 
--- FF HIGH and EF LOW, or IR LOW and OR HIGH
+-- not full, no word ready, and the other flags
 abbrev pub ShowsReset : Mode → Lines → Type 0
 ShowsReset mode l =
     (l .ff ≡ isStandard mode) × (l .ef ≡ not (isStandard mode)) × (l .hf ≡ true) × (l .pae ≡ false) × (l .paf ≡ true)
 
 cleared-flags : (part : Part) (mode : Mode) (oe started wclk rclk : Bool) (o : Offsets) (reading : Reading)
     → ShowsReset mode (linesOf part oe (cleared started wclk rclk (keptMode mode) o reading))
-unfolding linesOf cleared full ready waits
+unfolding linesOf cleared full ready seesWord
 cleared-flags Idt72V255LA Standard oe started wclk rclk o reading = (refl, refl, refl, refl, refl)
 cleared-flags Idt72V255LA (Fwft untaken) oe started wclk rclk o reading = (refl, refl, refl, refl, refl)
 cleared-flags Idt72V265LA Standard oe started wclk rclk o reading = (refl, refl, refl, refl, refl)
@@ -49,12 +48,6 @@ master-flags part oe p = master-by part oe p (p .fwft)
 pub partial-flags : (part : Part) (oe : Bool) (p : Pins) (s : State) → ShowsReset (s .read .mode) (linesOf part oe (partialReset p s))
 unfolding partialReset
 partial-flags part oe p s = cleared-flags part (s .read .mode) oe (s .started) (p .wclk) (p .rclk) (s .offsets) (ended (s .reading .next))
-
--- no word is accepted yet
-pub cleared-keeps : (started wclk rclk : Bool) (mode : Mode) (o : Offsets) (reading : Reading)
-    → Keeps 0 (cleared started wclk rclk mode o reading .write)
-unfolding cleared
-cleared-keeps started wclk rclk mode o reading = record { count = refl; passed = refl }
 
 pub power-up-passes : (part : Part) → passes part poweredUp ≡ true
 unfolding passes widths inReach poweredUp cleared fit defaults

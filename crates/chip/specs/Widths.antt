@@ -1,8 +1,7 @@
 -- What is turned away, 3, on widths: a state that passes them keeps passing them.
-use Prim.Native.Nat.{ℕ, _^_, _<_}
+use Prim.Native.Nat.{ℕ, _^_}
 use mathlib.Core.Bool.{Bool, true, false, cond, _&&_, and-eq-true-iff}
 use mathlib.Core.Path.{_≡_, refl}
-use lib.Dec.{ltb}
 use borrow.Author.Tests.{lt-ltb}
 use native.Mathlib.Omega.{arith}
 use Rattle.counts.specs.declared.part.Part.{Part}
@@ -10,7 +9,7 @@ use Rattle.offsets.specs.Fits.{defaults-fit, offsets-stay, shown-stays}
 use Rattle.offsets.specs.Reading.{shownFits}
 use Rattle.offsets.specs.Registers.{fit}
 use Rattle.pins.specs.declared.record.Pins.{Pins}
-use Rattle.pins.specs.Record.{word}
+use Rattle.pins.specs.Record.{isWord, word}
 use Rattle.sides.specs.Clocks.{readRises, writeRises}
 use Rattle.sides.specs.Read.{delivers, readAfter}
 use Rattle.chip.specs.declared.state.State.{State}
@@ -22,12 +21,12 @@ use Rattle.chip.specs.State.{widths}
 pub record Widths (part : Part) (s : State) : Type 0 where
   pub offsets : fit part (s .offsets) ≡ true
   pub shown : shownFits part (s .reading .shows) ≡ true
-  pub output : ltb (s .read .output) (2 ^ 18) ≡ true
+  pub output : isWord (s .read .output) ≡ true
 
 pub apart : (part : Part) (s : State) → widths part s ≡ true → Widths part s
 unfolding widths
 apart part s e =
-    let all = and-eq-true-iff (fit part (s .offsets) && shownFits part (s .reading .shows)) (ltb (s .read .output) (2 ^ 18)) .0 e in
+    let all = and-eq-true-iff (fit part (s .offsets) && shownFits part (s .reading .shows)) (isWord (s .read .output)) .0 e in
     let both = and-eq-true-iff (fit part (s .offsets)) (shownFits part (s .reading .shows)) .0 (all .0) in
     record { offsets = both .0; shown = both .1; output = all .1 }
 
@@ -35,7 +34,7 @@ together : (part : Part) (s : State) → Widths part s → widths part s ≡ tru
 unfolding widths
 together part s w = simp (w .offsets, w .shown, w .output)
 
-output-stays : (delivered : Bool) (fetched output : ℕ) → ltb output (2 ^ 18) ≡ true → ltb (cond delivered (word fetched) output) (2 ^ 18) ≡ true
+output-stays : (delivered : Bool) (fetched output : ℕ) → isWord output ≡ true → isWord (cond delivered (word fetched) output) ≡ true
 output-stays true fetched output e = lt-ltb (word fetched) (2 ^ 18) (omega arith)
 output-stays false fetched output e = e
 

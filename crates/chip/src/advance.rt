@@ -75,7 +75,7 @@ fn store_of(part: Part, p: Pins, s: State) -> Store
     if p.mrs & p.prs & sides::write::accepts_word(part, p, s.write) {
         Store::Put(
             counts::round::write_place(part, s.write.count),
-            p.d % 262144,
+            pins::record::low_word(p.d),
         )
     } else {
         Store::Keep

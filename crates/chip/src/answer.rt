@@ -17,7 +17,7 @@ pub fn answer(part: Part, p: Pins, s: State) -> u32
     let ff = ff_level(mode, sides::write::is_full(part, s.write));
     let ef = ef_level(mode, sides::read::is_ready(read));
     let words = counts::round::words_ahead(s.write.count, s.read.count);
-    let hf = !sides::flags::is_hf_low(part, words);
+    let hf = !views::flags::is_hf_low(part, words);
     let q = offsets::reading::show(shows, s.read.output);
     pins::answer::pack(Lines {
         ff: ff,

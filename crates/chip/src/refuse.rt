@@ -1,5 +1,5 @@
 // What is turned away: 5 to 10.
-ghost use Rattle.chip.specs.Refuse.{Refuses, mostAccepted, refusesEight, refusesFive, refusesNine, refusesSeven, refusesSix, refusesTen, severalLow, wrongPin};
+ghost use Rattle.chip.specs.Refuse.{Refuses, retransmitMost, refusesEight, refusesFive, refusesNine, refusesSeven, refusesSix, refusesTen, severalLow, asksOther};
 ghost use Rattle.counts.specs.Part.{depthOf};
 ghost use mathlib.Core.Bool.{cond};
 ghost use mathlib.Core.Path.{_≡_};
@@ -12,18 +12,18 @@ use sides::read::Mode;
 pub fn refusal(part: Part, p: Pins, s: State) -> u8
     ensures { λ r. ⌜ Refuses part p s r ⌝ }
 {
-    let from_ten = first(refuses_ten(p, s), 10, 0);
-    let from_nine = first(refuses_nine(part, p, s), 9, from_ten);
-    let from_eight = first(refuses_eight(p, s), 8, from_nine);
-    let from_seven = first(refuses_seven(p, s), 7, from_eight);
-    let from_six = first(refuses_six(p, s), 6, from_seven);
-    first(refuses_five(p, s), 5, first(p.mrs & p.prs, from_six, 0))
+    let from_ten = pick(refuses_ten(p, s), 10, 0);
+    let from_nine = pick(refuses_nine(part, p, s), 9, from_ten);
+    let from_eight = pick(refuses_eight(p, s), 8, from_nine);
+    let from_seven = pick(refuses_seven(p, s), 7, from_eight);
+    let from_six = pick(refuses_six(p, s), 6, from_seven);
+    pick(refuses_five(p, s), 5, pick(p.mrs & p.prs, from_six, 0))
 }
 
-fn first(applies: bool, number: u8, later: u8) -> u8
-    ensures { λ r. ⌜ r ≡ cond applies number later ⌝ }
+fn pick(applies: bool, number: u8, otherwise: u8) -> u8
+    ensures { λ r. ⌜ r ≡ cond applies number otherwise ⌝ }
 {
-    if applies { number } else { later }
+    if applies { number } else { otherwise }
 }
 
 fn refuses_five(p: Pins, s: State) -> bool
@@ -45,7 +45,7 @@ fn refuses_seven(p: Pins, s: State) -> bool
 {
     let offsets = s.offsets;
     let method = offsets.method;
-    sides::clocks::write_rises(p, s.write) & !p.ld & !wrong_pin(method, p)
+    sides::clocks::write_rises(p, s.write) & !p.ld & asks_other(method, p)
 }
 
 fn refuses_eight(p: Pins, s: State) -> bool
@@ -59,7 +59,7 @@ fn refuses_nine(part: Part, p: Pins, s: State) -> bool
 {
     let read = s.read;
     let mode = read.mode;
-    let most = most_accepted(part, mode);
+    let most = retransmit_most(part, mode);
     sides::read::is_retransmit(p, s.read)
         & (sides::write::accepted_none(s.write) | sides::write::accepted_more(most, s.write))
 }
@@ -69,7 +69,7 @@ fn refuses_ten(p: Pins, s: State) -> bool
 {
     let write = s.write;
     let view = write.view;
-    sides::clocks::write_rises(p, s.write) & p.ld & !p.wen & !sides::retransmit::is_seen(view)
+    sides::clocks::write_rises(p, s.write) & p.ld & !p.wen & !views::retransmit::is_seen(view)
 }
 
 fn several_low(wen: bool, ren: bool, sen: bool) -> bool
@@ -78,17 +78,17 @@ fn several_low(wen: bool, ren: bool, sen: bool) -> bool
     !wen & !ren | !wen & !sen | !ren & !sen
 }
 
-fn wrong_pin(method: Method, p: Pins) -> bool
-    ensures { λ r. ⌜ r ≡ wrongPin method p ⌝ }
+fn asks_other(method: Method, p: Pins) -> bool
+    ensures { λ r. ⌜ r ≡ asksOther method p ⌝ }
 {
     match method {
-        Method::Parallel => p.sen,
-        Method::Serial => p.wen,
+        Method::Parallel => !p.sen,
+        Method::Serial => !p.wen,
     }
 }
 
-fn most_accepted(part: Part, mode: Mode) -> u16
-    ensures { λ r. ⌜ r ≡ mostAccepted (depthOf part) mode ⌝ }
+fn retransmit_most(part: Part, mode: Mode) -> u16
+    ensures { λ r. ⌜ r ≡ retransmitMost (depthOf part) mode ⌝ }
 {
     let depth = counts::part::depth(part);
     match mode {

@@ -1,6 +1,7 @@
 // Resets, and power-up.
 ghost use Rattle.chip.specs.Reset.{PoweredUp, cleared, keptMode, masterReset, partialReset, selectedMode};
 ghost use mathlib.Core.Path.{_≡_};
+use super::state::State;
 use counts::round::ReadCount;
 use counts::round::WriteCount;
 use offsets::reading::Reading;
@@ -9,12 +10,11 @@ use offsets::registers::Offsets;
 use pins::record::Pins;
 use sides::read::Mode;
 use sides::read::ReadSide;
-use sides::retransmit::Setup;
-use sides::retransmit::View;
-use sides::stages::ReadRise;
-use sides::stages::WriteRise;
 use sides::write::WriteSide;
-use super::state::State;
+use views::retransmit::Setup;
+use views::retransmit::View;
+use views::stages::ReadRise;
+use views::stages::WriteRise;
 
 pub fn power_up() -> State
     ensures { λ r. ⌜ PoweredUp r ⌝ }
@@ -39,8 +39,8 @@ pub fn reset_partial(p: Pins, s: State) -> State
     let read = s.read;
     let before = read.mode;
     let mode = keep_mode(before);
-    let shown = s.reading;
-    let next = shown.next;
+    let before_reading = s.reading;
+    let next = before_reading.next;
     let reading = offsets::reading::end_showing(next);
     clear(s.started, p.wclk, p.rclk, mode, s.offsets, reading)
 }
@@ -60,7 +60,7 @@ fn clear(
         write: WriteSide {
             level: wclk,
             count: WriteCount(0),
-            passed: false,
+            wrapped: false,
             first: ReadCount(0),
             second: ReadCount(0),
             latest: ReadRise::NoneSince,

@@ -30,7 +30,7 @@ fn fits_widths(part: Part, s: State) -> bool
     let shows = reading.shows;
     offsets::registers::offsets_fit(part, s.offsets)
         & offsets::reading::shown_fits(part, shows)
-        & (s.read.output < 262144)
+        & pins::record::is_word(s.read.output)
 }
 
 fn is_in_reach(part: Part, s: State) -> bool
@@ -39,11 +39,11 @@ fn is_in_reach(part: Part, s: State) -> bool
     let depth = counts::part::depth(part);
     let count = s.write.count;
     let held = counts::round::words_ahead(count, s.read.count);
-    let unseen = counts::round::words_behind(count, s.read.second);
+    let beyond_second = counts::round::words_behind(count, s.read.second);
     (held <= depth)
         & (counts::round::words_ahead(count, s.write.first) <= depth)
         & (counts::round::words_ahead(count, s.write.second) <= depth)
         & (counts::round::words_behind(count, s.read.first) <= depth)
-        & (unseen <= depth)
-        & (unseen <= held)
+        & (beyond_second <= depth)
+        & (beyond_second <= held)
 }

@@ -30,10 +30,10 @@ nextRead moves count = record { 0 = cond moves (more width (count .0)) (count .0
 abbrev pub lastOfWidth : WriteCount → Bool
 lastOfWidth count = eqb (count .0) (width - 1)
 
--- words that the write count is ahead of a read count
+-- words that a write count is ahead of a read count
 abbrev pub ahead : WriteCount → ReadCount → ℕ
 ahead write read = less width (write .0) (read .0)
 
--- words that an earlier write count lies behind the write count
+-- words that lie between an earlier write count and a later one
 abbrev pub behind : WriteCount → WriteCount → ℕ
 behind write earlier = less width (write .0) (earlier .0)

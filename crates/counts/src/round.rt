@@ -1,14 +1,14 @@
-// The two sides, on the counts: kept apart, and round the width of 16 bits in sums and differences.
+// The two sides, on the counts: two types, so that neither is taken for the other, and 16 bits that wrap.
 ghost use Rattle.counts.specs.Part.{depthOf};
 ghost use Rattle.counts.specs.Round.{ahead, behind, lastOfWidth, more, nextRead, nextWrite, placeOf, width};
 ghost use mathlib.Core.Bool.{cond};
 ghost use mathlib.Core.Path.{_≡_};
 use super::part::Part;
 
-// Words into memory since reset.
+// Of words written to memory.
 pub struct WriteCount(pub u16);
 
-// Words out of memory to the output register.
+// Of words delivered from memory.
 pub struct ReadCount(pub u16);
 
 pub fn next_write(moves: bool, count: WriteCount) -> WriteCount
@@ -66,8 +66,5 @@ fn next(moves: bool, count: u16) -> u16
 fn place(part: Part, count: u16) -> u16
     ensures { λ r. ⌜ r ≡ placeOf (depthOf part) count ⌝ }
 {
-    match part {
-        Part::Idt72V255LA => count % 8192,
-        Part::Idt72V265LA => count % 16384,
-    }
+    count % super::part::depth(part)
 }

@@ -1,5 +1,5 @@
--- What is turned away, 3, on the offsets: the test read as bounds, and kept by loading and reading.
-use Prim.Native.Nat.{ℕ, suc, _+_, _*_, _^_, _≤_, _<_}
+-- What is turned away, 3, on the offsets: the test read as bounds, and picked by loading and reading.
+use Prim.Native.Nat.{ℕ, _+_, _^_, _≤_, _<_}
 use mathlib.Core.Bool.{Bool, true, false, cond, not, _&&_, and-eq-true-iff}
 use mathlib.Core.Logic.{_≢_}
 use mathlib.Core.Path.{_≡_, refl}
@@ -102,15 +102,15 @@ serial-fits-by part bit o false e f =
     }
 
 -- one rule for whatever a test picks
-kept : (P : Offsets → Type 0) (first : Bool) (a b : Offsets) → P a → P b → P (cond first a b)
-kept P true a b f g = f
-kept P false a b f g = g
+picked : (P : Offsets → Type 0) (first : Bool) (a b : Offsets) → P a → P b → P (cond first a b)
+picked P true a b f g = f
+picked P false a b f g = g
 
 loaded-fits : (part : Part) (p : Pins) (method : Method) (o : Offsets) → Fits part o → Fits part (loadedBy method part p o)
 unfolding loadedBy loadSerial
-loaded-fits part p Parallel o f = kept (Fits part) (p .wen) o (loadParallel part (p .d) o) f (parallel-fits part (p .d) o f)
+loaded-fits part p Parallel o f = picked (Fits part) (p .wen) o (loadParallel part (p .d) o) f (parallel-fits part (p .d) o f)
 loaded-fits part p Serial o f =
-    kept (Fits part) (p .sen) o (loadSerial part (p .fwft) o) f
+    picked (Fits part) (p .sen) o (loadSerial part (p .fwft) o) f
     (serial-fits-by part (p .fwft) o (eqb (o .count + 1) (serialBits part)) refl f)
 
 pub offsets-stay : (part : Part) (p : Pins) (rises : Bool) (o : Offsets) → fit part o ≡ true → fit part (offsetsAfter part p rises o) ≡ true
@@ -118,7 +118,7 @@ unfolding offsetsAfter
 offsets-stay part p rises o e =
     let f = fits part o e in
     fitting part (offsetsAfter part p rises o)
-    (kept (Fits part) (rises && not (p .ld)) (loadedBy (o .method) part p o) o (loaded-fits part p (o .method) o f) f)
+    (picked (Fits part) (rises && not (p .ld)) (loadedBy (o .method) part p o) o (loaded-fits part p (o .method) o f) f)
 
 pub defaults-fit : (part : Part) (ld : Bool) → fit part (defaults ld) ≡ true
 unfolding fit defaults

@@ -25,7 +25,7 @@ loadParallel part d o = record {
 abbrev pub pushed : Bool → Offsets → ℕ
 pushed bit o = o .serial + cond bit (2 ^ o .count) 0
 
--- one serial bit, by whether it is the last: with that both registers take their values together, n the earlier half
+-- one serial bit, by whether it is the last, which fills both registers, n from the earlier half
 unfoldable pub withBit : Bool → Part → Bool → Offsets → Offsets
 withBit true part bit o = record {
   n = lowBits (offsetBits part) (pushed bit o);

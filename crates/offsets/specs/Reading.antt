@@ -29,7 +29,7 @@ abbrev pub shown : Shows → ℕ → ℕ
 shown Register output = output
 shown (Offset offset) output = offset
 
--- What is turned away, 3: an offset that is shown is no wider than its bits
+-- What is turned away, 3, on an offset while it is shown
 abbrev pub shownFits : Part → Shows → Bool
 shownFits part Register = true
 shownFits part (Offset offset) = within (offsetBits part) offset

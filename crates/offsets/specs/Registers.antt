@@ -19,7 +19,7 @@ abbrev pub isN : Next → Bool
 isN N = true
 isN M = false
 
--- n, then m, then n again
+-- the two take turns
 abbrev pub other : Next → Next
 other N = M
 other M = N
@@ -41,10 +41,10 @@ defaults ld = record {
   count = 0;
 }
 
--- What is turned away, 3: the serial bits so far are no wider than their count, and that is below 26 or 28
+-- What is turned away, 3, on the serial bits
 abbrev pub serialFits : ℕ → ℕ → ℕ → Bool
 serialFits limit serial count = ltb count limit && ltb serial (2 ^ count)
 
--- What is turned away, 3: no register of the offsets is wider than its bits
+-- What is turned away, 3, on all that is kept for the offsets but the one shown
 unfoldable pub fit : Part → Offsets → Bool
 fit part o = within (offsetBits part) (o .n) && within (offsetBits part) (o .m) && serialFits (serialBits part) (o .serial) (o .count)

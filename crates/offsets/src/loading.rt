@@ -1,8 +1,7 @@
 // Offsets: parallel and serial loading, at a rise of WCLK.
-ghost use Prim.Native.Nat.{_+_, _<_, _^_};
-ghost use Rattle.counts.specs.Part.{offsetBits};
+ghost use Prim.Native.Nat.{_+_};
 ghost use Rattle.offsets.specs.Loading.{loadParallel, loadSerial, loadedBy, offsetsAfter, pushed};
-ghost use Rattle.offsets.specs.Registers.{fit, isN, other};
+ghost use Rattle.offsets.specs.Registers.{fit, isN};
 ghost use mathlib.Core.Bool.{cond, true};
 ghost use mathlib.Core.Path.{_≡_};
 use super::registers::Method;

@@ -1,5 +1,5 @@
 // Offsets: what is kept of them between two samples, and what a Master Reset makes it.
-ghost use Rattle.counts.specs.Part.{offsetBits, serialBits};
+ghost use Rattle.counts.specs.Part.{serialBits};
 ghost use Rattle.offsets.specs.Registers.{defaultOffset, defaults, fit, methodOf, other, serialFits};
 ghost use Prim.Native.Nat.{_^_};
 ghost use lib.Dec.{ltb};

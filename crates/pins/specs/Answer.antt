@@ -1,5 +1,5 @@
--- Trace sample: the answer, 24 bits, three bytes.
-use Prim.Native.Nat.{ℕ, _+_, _%_, _^_}
+-- Trace sample: the lines of the chip in an answer.
+use Prim.Native.Nat.{ℕ, _+_}
 use mathlib.Core.Bool.{Bool, cond}
 use Rattle.pins.specs.declared.answer.Lines.{Lines}
 use Rattle.pins.specs.Record.{at, word}

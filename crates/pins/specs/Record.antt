@@ -1,15 +1,18 @@
--- Trace sample: 32 bits, four bytes, most significant first.
+-- Trace sample: the pins in a record.
 use Prim.Native.Nat.{ℕ, _+_, _/_, _%_, _^_}
 use mathlib.Core.Bool.{Bool, cond}
-use lib.Dec.{eqb}
+use lib.Dec.{eqb, ltb}
 use Rattle.pins.specs.declared.record.Pins.{Pins}
 
 abbrev pub bit : ℕ → ℕ → Bool
 bit k x = eqb (x / 2 ^ k % 2) 1
 
--- the 18 bits that D and Q have
+-- the low 18 bits, as many as D and Q have
 abbrev pub word : ℕ → ℕ
 word x = x % 2 ^ 18
+
+abbrev pub isWord : ℕ → Bool
+isWord x = ltb x (2 ^ 18)
 
 abbrev pub pinsOf : ℕ → Pins
 pinsOf x = record {

@@ -24,7 +24,7 @@ pub fn pack(lines: Lines) -> u32
         + flag(lines.pae, 1 << 20)
         + flag(lines.paf, 1 << 19)
         + flag(lines.driven, 1 << 18)
-        + shown(lines.driven, lines.q)
+        + given_q(lines.driven, lines.q)
 }
 
 fn flag(level: bool, weight: u32) -> u32
@@ -34,9 +34,13 @@ fn flag(level: bool, weight: u32) -> u32
     if level { weight } else { 0 }
 }
 
-fn shown(driven: bool, q: u32) -> u32
+fn given_q(driven: bool, q: u32) -> u32
     ensures means { λ r. ⌜ r ≡ given driven q ⌝ }
     ensures within { λ r. ⌜ r < 2 ^ 18 ⌝ }
 {
-    if driven { q % 262144 } else { 0 }
+    if driven {
+        super::record::low_word(q)
+    } else {
+        0
+    }
 }

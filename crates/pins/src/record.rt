@@ -1,5 +1,5 @@
 // Trace sample, its first paragraph: the levels of the pins and D in a record.
-ghost use Rattle.pins.specs.Record.{bit, pinsOf, word};
+ghost use Rattle.pins.specs.Record.{isWord, pinsOf, word};
 ghost use mathlib.Core.Path.{_≡_};
 
 // Whether the skew time was met, should that side's clock rise in this sample.
@@ -44,6 +44,18 @@ pub fn decode(record: u32) -> Pins
             write: (record >> 20) % 2 == 1,
             read: (record >> 19) % 2 == 1,
         },
-        d: record % 262144,
+        d: low_word(record),
     }
+}
+
+pub fn low_word(x: u32) -> u32
+    ensures { λ r. ⌜ r ≡ word x ⌝ }
+{
+    x % 262144
+}
+
+pub fn is_word(x: u32) -> bool
+    ensures { λ r. ⌜ r ≡ isWord x ⌝ }
+{
+    x < 262144
 }

@@ -4,7 +4,7 @@ use Rattle.pins.specs.declared.record.Pins.{Pins}
 use Rattle.sides.specs.declared.read.ReadSide.{ReadSide}
 use Rattle.sides.specs.declared.write.WriteSide.{WriteSide}
 
--- the last accepted level was LOW, and it is now HIGH
+-- by the level last accepted and the present one
 abbrev pub rises : Bool → Bool → Bool
 rises last level = not last && level
 

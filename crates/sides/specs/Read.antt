@@ -12,26 +12,26 @@ use Rattle.sides.specs.declared.read.Mode.the-variants.{Standard, Fwft}
 use Rattle.sides.specs.declared.read.ReadSide.{ReadSide}
 use Rattle.sides.specs.declared.write.WriteSide.{WriteSide}
 use Rattle.sides.specs.Clocks.{readRises, writeRises}
-use Rattle.sides.specs.Flags.{paeLow}
-use Rattle.sides.specs.Retransmit.{isOver, setupAfter}
-use Rattle.sides.specs.Stages.{latestWrite, takenWrite}
+use Rattle.views.specs.Flags.{paeLow}
+use Rattle.views.specs.Retransmit.{isOver, setupAfter}
+use Rattle.views.specs.Stages.{latestWrite, takenWrite}
 
 unfoldable pub retransmits : Pins → ReadSide → Bool
 retransmits p r = readRises p r && not (p .rt)
 
--- the read side sees a word in memory: its second stage differs from the read count, and no retransmit setup runs
-unfoldable pub waits : ReadSide → Bool
-waits r = isOver (r .setup) && not (eqb (r .second .0) (r .count .0))
+-- the read side sees a word in memory: no retransmit setup runs, and its second stage and the read count differ
+unfoldable pub seesWord : ReadSide → Bool
+seesWord r = isOver (r .setup) && not (eqb (r .second .0) (r .count .0))
 
 -- the flag shows a word ready: EF HIGH when one is seen, OR LOW while one is untaken
 abbrev pub readyBy : Mode → Bool → Bool
-readyBy Standard waiting = waiting
-readyBy (Fwft untaken) waiting = untaken
+readyBy Standard seen = seen
+readyBy (Fwft untaken) seen = untaken
 
 unfoldable pub ready : ReadSide → Bool
-ready r = readyBy (r .mode) (waits r)
+ready r = readyBy (r .mode) (seesWord r)
 
--- a read: LD HIGH, REN LOW, RT HIGH, and the flag showed a word ready before the sample
+-- a rise at which a word is read: asked for by the pins, and ready before the sample
 unfoldable pub reads : Pins → ReadSide → Bool
 reads p r = readRises p r && p .ld && not (p .ren) && p .rt && ready r
 
@@ -41,7 +41,7 @@ deliversBy Standard may read = read
 deliversBy (Fwft untaken) may read = may && not (untaken && not read)
 
 unfoldable pub delivers : Pins → ReadSide → Bool
-delivers p r = deliversBy (r .mode) (readRises p r && p .rt && waits r) (reads p r)
+delivers p r = deliversBy (r .mode) (readRises p r && p .rt && seesWord r) (reads p r)
 
 -- in FWFT a word stays untaken until it is read; a retransmit leaves none
 abbrev pub modeAfter : Mode → Bool → Bool → Bool → Mode
@@ -51,7 +51,7 @@ modeAfter (Fwft untaken) retransmitted delivered read = Fwft (not retransmitted 
 unfoldable pub countAfter : Bool → Bool → ReadCount → ReadCount
 countAfter retransmitted delivered count = cond retransmitted (record { 0 = 0 }) (nextRead delivered count)
 
--- a delivered word is the low 18 bits of the one at the read count; else the register keeps its bits
+-- a delivery fills the output register from the fetched word, and nothing else changes it
 abbrev pub registerAfter : Bool → ℕ → ℕ → ℕ
 registerAfter delivered fetched output = cond delivered (word fetched) output
 

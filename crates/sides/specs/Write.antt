@@ -9,29 +9,30 @@ use Rattle.pins.specs.declared.record.Pins.{Pins}
 use Rattle.sides.specs.declared.read.ReadSide.{ReadSide}
 use Rattle.sides.specs.declared.write.WriteSide.{WriteSide}
 use Rattle.sides.specs.Clocks.{readRises, writeRises}
-use Rattle.sides.specs.Flags.{fullAt, pafLow}
+use Rattle.views.specs.Flags.{fullAt, pafLow}
 use Rattle.sides.specs.Read.{retransmits}
-use Rattle.sides.specs.Retransmit.{isFirst, viewAfter}
-use Rattle.sides.specs.Stages.{latestRead, looksPast, takenRead}
+use Rattle.views.specs.Retransmit.{justBegun, viewAfter}
+use Rattle.views.specs.Stages.{latestRead, looksPast, takenRead}
 
 unfoldable pub full : ℕ → WriteSide → Bool
 full depth w = fullAt depth (ahead (w .count) (w .second))
 
--- the word on D is accepted: a rise with LD HIGH and WEN LOW, and not full before the sample
+-- the word on D is accepted: a rise that asks for it, and not full before the sample
 unfoldable pub accepts : ℕ → Pins → WriteSide → Bool
 accepts depth p w = writeRises p w && p .ld && not (p .wen) && not (full depth w)
 
 -- words accepted since reset: none
 abbrev pub acceptedNone : WriteSide → Bool
-acceptedNone w = not (w .passed) && eqb (w .count .0) 0
+acceptedNone w = not (w .wrapped) && eqb (w .count .0) 0
 
--- words accepted since reset: more than a number of the counts' width
+-- words accepted since reset: more than a limit below the width
 abbrev pub acceptedMore : ℕ → WriteSide → Bool
-acceptedMore limit w = w .passed || ltb limit (w .count .0)
+acceptedMore limit w = w .wrapped || ltb limit (w .count .0)
 
--- the read count that a rise takes is from after the last retransmit, unless it looks past the very rise that retransmits
+-- the read count taken at a rise is from after the last retransmit before this sample, unless the rise looked past
+-- is the very one that retransmitted
 unfoldable pub takesAfter : Pins → ReadSide → WriteSide → Bool
-takesAfter p r w = not (looksPast (p .skew .write) (w .latest) && isFirst (r .setup))
+takesAfter p r w = not (looksPast (p .skew .write) (w .latest) && justBegun (r .setup))
 
 -- after a rise the second stage holds what the first held
 unfoldable pub secondAfterWrite : Pins → WriteSide → ReadCount
@@ -45,7 +46,7 @@ unfoldable pub writeAfter : ℕ → ℕ → Pins → ReadSide → WriteSide → 
 writeAfter depth m p r w = record {
   level = p .wclk;
   count = writeCountAfter depth p w;
-  passed = w .passed || accepts depth p w && lastOfWidth (w .count);
+  wrapped = w .wrapped || accepts depth p w && lastOfWidth (w .count);
   first = cond (writeRises p w) (takenRead (p .skew .write) (w .latest) (r .count)) (w .first);
   second = secondAfterWrite p w;
   latest = latestRead (writeRises p w) (readRises p r) (r .count) (w .latest);

@@ -1,12 +1,12 @@
 // The two sides, RCLK rise in both timing modes; and Retransmit on the read side.
-ghost use Rattle.sides.specs.Read.{countAfter, delivers, deliversBy, modeAfter, readAfter, reads, ready, readyBy, registerAfter, retransmits, waits};
+ghost use Rattle.sides.specs.Read.{countAfter, delivers, deliversBy, modeAfter, readAfter, reads, ready, readyBy, registerAfter, retransmits, seesWord};
 ghost use mathlib.Core.Path.{_≡_};
-use super::retransmit::Setup;
-use super::stages::WriteRise;
 use super::write::WriteSide;
 use counts::round::ReadCount;
 use counts::round::WriteCount;
 use pins::record::Pins;
+use views::retransmit::Setup;
+use views::stages::WriteRise;
 
 // Timing modes. In FWFT the output register may hold a word that no read has taken yet; in Standard a word is taken as
 // it is delivered.
@@ -15,7 +15,7 @@ pub enum Mode {
     Fwft { untaken: bool },
 }
 
-// `level` is RCLK's last accepted one; `pae` is the level of PAE.
+// `level` is that of RCLK, `pae` that of PAE; `output` is the output register.
 pub struct ReadSide {
     pub level: bool,
     pub count: ReadCount,
@@ -38,7 +38,7 @@ pub fn is_ready(r: ReadSide) -> bool
     ensures { λ b. ⌜ b ≡ ready r ⌝ }
 {
     let mode = r.mode;
-    ready_by(mode, is_waiting(r))
+    ready_by(mode, sees_word(r))
 }
 
 pub fn is_read(p: Pins, r: ReadSide) -> bool
@@ -53,7 +53,7 @@ pub fn is_delivered(p: Pins, r: ReadSide) -> bool
     let mode = r.mode;
     deliver_by(
         mode,
-        super::clocks::read_rises(p, r) & p.rt & is_waiting(r),
+        super::clocks::read_rises(p, r) & p.rt & sees_word(r),
         is_read(p, r),
     )
 }
@@ -66,16 +66,16 @@ pub fn read_after(n: u16, p: Pins, fetched: u32, w: WriteSide, r: ReadSide) -> R
     let delivered = is_delivered(p, r);
     let count = count_after(retransmits, delivered, r.count);
     let latest = r.latest;
-    let taken = super::stages::take_write(p.skew.read, latest, w.count);
-    let first = super::stages::move_write(rises, taken, r.first);
-    let second = super::stages::move_write(rises, r.first, r.second);
+    let taken = views::stages::take_write(p.skew.read, latest, w.count);
+    let first = views::stages::pick_write(rises, taken, r.first);
+    let second = views::stages::pick_write(rises, r.first, r.second);
     let other = super::clocks::write_rises(p, w);
-    let remembered = super::stages::remember_write(rises, other, w.count, latest);
+    let remembered = views::stages::remember_write(rises, other, w.count, latest);
     let before = r.setup;
-    let setup = super::retransmit::setup_after(rises, p.rt, before);
-    let over = super::retransmit::is_over(setup);
-    let low = super::flags::is_pae_low(n, counts::round::words_ahead(second, count));
-    let pae = super::stages::move_level(rises & over, !low, r.pae);
+    let setup = views::retransmit::setup_after(rises, p.rt, before);
+    let over = views::retransmit::is_over(setup);
+    let low = views::flags::is_pae_low(n, counts::round::words_ahead(second, count));
+    let pae = views::stages::pick_level(rises & over, !low, r.pae);
     let held = r.mode;
     let mode = mode_after(held, retransmits, delivered, is_read(p, r));
     let output = register_after(delivered, fetched, r.output);
@@ -92,18 +92,18 @@ pub fn read_after(n: u16, p: Pins, fetched: u32, w: WriteSide, r: ReadSide) -> R
     }
 }
 
-fn is_waiting(r: ReadSide) -> bool
-    ensures { λ b. ⌜ b ≡ waits r ⌝ }
+fn sees_word(r: ReadSide) -> bool
+    ensures { λ b. ⌜ b ≡ seesWord r ⌝ }
 {
     let setup = r.setup;
-    super::retransmit::is_over(setup) & !(r.second.0 == r.count.0)
+    views::retransmit::is_over(setup) & !(r.second.0 == r.count.0)
 }
 
-fn ready_by(mode: Mode, waiting: bool) -> bool
-    ensures { λ b. ⌜ b ≡ readyBy mode waiting ⌝ }
+fn ready_by(mode: Mode, seen: bool) -> bool
+    ensures { λ b. ⌜ b ≡ readyBy mode seen ⌝ }
 {
     match mode {
-        Mode::Standard => waiting,
+        Mode::Standard => seen,
         Mode::Fwft { untaken } => untaken,
     }
 }
@@ -131,7 +131,7 @@ fn mode_after(mode: Mode, retransmits: bool, delivered: bool, read: bool) -> Mod
 fn count_after(retransmits: bool, delivered: bool, count: ReadCount) -> ReadCount
     ensures { λ q. ⌜ q ≡ countAfter retransmits delivered count ⌝ }
 {
-    super::stages::move_read(
+    views::stages::pick_read(
         retransmits,
         ReadCount(0),
         counts::round::next_read(delivered, count),
@@ -141,5 +141,9 @@ fn count_after(retransmits: bool, delivered: bool, count: ReadCount) -> ReadCoun
 fn register_after(delivered: bool, fetched: u32, output: u32) -> u32
     ensures { λ q. ⌜ q ≡ registerAfter delivered fetched output ⌝ }
 {
-    if delivered { fetched % 262144 } else { output }
+    if delivered {
+        pins::record::low_word(fetched)
+    } else {
+        output
+    }
 }

@@ -3,19 +3,18 @@ ghost use Rattle.counts.specs.Part.{depthOf};
 ghost use Rattle.sides.specs.Write.{acceptedMore, acceptedNone, accepts, full, takesAfter, writeAfter};
 ghost use mathlib.Core.Path.{_≡_};
 use super::read::ReadSide;
-use super::retransmit::View;
-use super::stages::ReadRise;
 use counts::part::Part;
 use counts::round::ReadCount;
 use counts::round::WriteCount;
 use pins::record::Pins;
+use views::retransmit::View;
+use views::stages::ReadRise;
 
-// `level` is WCLK's last accepted one; `passed` says that the count has passed its width since the last reset;
-// `paf` is the level of PAF.
+// `level` is that of WCLK, `paf` that of PAF; `wrapped` says that a word since the last reset took the count round its width.
 pub struct WriteSide {
     pub level: bool,
     pub count: WriteCount,
-    pub passed: bool,
+    pub wrapped: bool,
     pub first: ReadCount,
     pub second: ReadCount,
     pub latest: ReadRise,
@@ -26,7 +25,7 @@ pub struct WriteSide {
 pub fn is_full(part: Part, w: WriteSide) -> bool
     ensures { λ r. ⌜ r ≡ full (depthOf part) w ⌝ }
 {
-    super::flags::is_full_at(part, counts::round::words_ahead(w.count, w.second))
+    views::flags::is_full_at(part, counts::round::words_ahead(w.count, w.second))
 }
 
 pub fn accepts_word(part: Part, p: Pins, w: WriteSide) -> bool
@@ -38,13 +37,13 @@ pub fn accepts_word(part: Part, p: Pins, w: WriteSide) -> bool
 pub fn accepted_none(w: WriteSide) -> bool
     ensures { λ r. ⌜ r ≡ acceptedNone w ⌝ }
 {
-    !w.passed & (w.count.0 == 0)
+    !w.wrapped & (w.count.0 == 0)
 }
 
 pub fn accepted_more(limit: u16, w: WriteSide) -> bool
     ensures { λ r. ⌜ r ≡ acceptedMore limit w ⌝ }
 {
-    w.passed | (limit < w.count.0)
+    w.wrapped | (limit < w.count.0)
 }
 
 fn takes_after(p: Pins, r: ReadSide, w: WriteSide) -> bool
@@ -52,7 +51,7 @@ fn takes_after(p: Pins, r: ReadSide, w: WriteSide) -> bool
 {
     let latest = w.latest;
     let setup = r.setup;
-    !(super::stages::looks_past(p.skew.write, latest) & super::retransmit::is_first(setup))
+    !(views::stages::looks_past(p.skew.write, latest) & views::retransmit::has_just_begun(setup))
 }
 
 pub fn write_after(part: Part, m: u16, p: Pins, r: ReadSide, w: WriteSide) -> WriteSide
@@ -63,20 +62,20 @@ pub fn write_after(part: Part, m: u16, p: Pins, r: ReadSide, w: WriteSide) -> Wr
     let count = counts::round::next_write(accepted, w.count);
     let wraps = counts::round::is_last_of_width(w.count);
     let latest = w.latest;
-    let taken = super::stages::take_read(p.skew.write, latest, r.count);
-    let first = super::stages::move_read(rises, taken, w.first);
-    let second = super::stages::move_read(rises, w.first, w.second);
+    let taken = views::stages::take_read(p.skew.write, latest, r.count);
+    let first = views::stages::pick_read(rises, taken, w.first);
+    let second = views::stages::pick_read(rises, w.first, w.second);
     let other = super::clocks::read_rises(p, r);
-    let remembered = super::stages::remember_read(rises, other, r.count, latest);
+    let remembered = views::stages::remember_read(rises, other, r.count, latest);
     let view = w.view;
     let retransmits = super::read::is_retransmit(p, r);
-    let seen = super::retransmit::view_after(retransmits, rises, takes_after(p, r, w), view);
+    let seen = views::retransmit::view_after(retransmits, rises, takes_after(p, r, w), view);
     let words = counts::round::words_ahead(count, second);
-    let paf = super::stages::move_level(rises, !super::flags::is_paf_low(part, m, words), w.paf);
+    let paf = views::stages::pick_level(rises, !views::flags::is_paf_low(part, m, words), w.paf);
     WriteSide {
         level: p.wclk,
         count: count,
-        passed: w.passed | accepted & wraps,
+        wrapped: w.wrapped | accepted & wraps,
         first: first,
         second: second,
         latest: remembered,

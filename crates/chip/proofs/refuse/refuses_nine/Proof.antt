@@ -5,7 +5,7 @@ use Rattle.chip.proofs.refuse.refuses_nine.Tie as tie
 
 returns : tie.Need-returns
 unfolding refusesNine
-returns c = simp (c .accepted-more .ensures, c .before .accepted-none .ensures, c .before .before .is-retransmit .ensures, c .before .before .before .most-accepted .ensures)
+returns c = simp (c .accepted-more .ensures, c .before .accepted-none .ensures, c .before .before .is-retransmit .ensures, c .before .before .before .retransmit-most .ensures)
 
 pub refuses-nine-spec : {M : Type 1} → statement M
 refuses-nine-spec =

@@ -1,12 +1,14 @@
+use native.Mathlib.Omega.{arith}
+use Rattle.counts.specs.PartLaws.{two-at-least}
 use borrow.Author.Needs.{needs}
 use Rattle.counts.proofs.round.place.Statement.{statement}
 use Rattle.counts.proofs.round.place.Tie as tie
 
-returns : tie.Need-returns
-returns c = simp (c .enum-told .given .1)
+rem-result : tie.Need-rem-result
+rem-result c = omega (arith, c .depth .ensures, two-at-least (c .before .args .part))
 
-returns-2 : tie.Need-returns-2
-returns-2 c = simp (c .enum-told2 .given .1)
+returns : tie.Need-returns
+returns c = simp (c .depth .ensures)
 
 pub place-spec : {M : Type 1} → statement M
-place-spec = tie.close (tie.spec (λ c. search needs) (λ c. search needs) returns returns-2)
+place-spec = tie.close (tie.spec (λ c κs. search needs) rem-result returns)

@@ -5,7 +5,7 @@ use Rattle.sides.proofs.read.is_delivered.Tie as tie
 
 returns : tie.Need-returns
 unfolding delivers
-returns c = simp (c .deliver-by .ensures, c .before .is-read .ensures, c .before .before .is-waiting .ensures, c .before .before .before .struct-known .given .1, c .before .before .before .before .read-rises .ensures)
+returns c = simp (c .deliver-by .ensures, c .before .is-read .ensures, c .before .before .sees-word .ensures, c .before .before .before .before .read-rises .ensures)
 
 pub is-delivered-spec : {M : Type 1} → statement M
 is-delivered-spec =

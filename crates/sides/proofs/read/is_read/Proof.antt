@@ -5,7 +5,7 @@ use Rattle.sides.proofs.read.is_read.Tie as tie
 
 returns : tie.Need-returns
 unfolding reads
-returns c = simp (c .is-ready .ensures, c .before .struct-known3 .given .1, c .before .before .struct-known2 .given .1, c .before .before .before .struct-known .given .1, c .before .before .before .before .read-rises .ensures)
+returns c = simp (c .is-ready .ensures, c .before .before .before .before .read-rises .ensures)
 
 pub is-read-spec : {M : Type 1} → statement M
 is-read-spec = tie.close (tie.spec (λ c κs. search needs) (λ c κs. search needs) returns)

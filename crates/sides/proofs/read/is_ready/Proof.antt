@@ -5,7 +5,7 @@ use Rattle.sides.proofs.read.is_ready.Tie as tie
 
 returns : tie.Need-returns
 unfolding ready
-returns c = simp (c .ready-by .ensures, c .before .is-waiting .ensures)
+returns c = simp (c .ready-by .ensures, c .before .sees-word .ensures)
 
 pub is-ready-spec : {M : Type 1} → statement M
 is-ready-spec = tie.close (tie.spec (λ c κs. search needs) (λ c κs. search needs) returns)
