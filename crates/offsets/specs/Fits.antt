@@ -70,9 +70,9 @@ either-fits : (first : Bool) (bits a b : ℕ) → a < 2 ^ bits → b < 2 ^ bits 
 either-fits true bits a b f g = f
 either-fits false bits a b f g = g
 
-pushed-fits : (bit : Bool) (count serial : ℕ) → serial < 2 ^ count → serial + cond bit (2 ^ count) 0 < 2 ^ (count + 1)
-pushed-fits true count serial h = rw add-one (omega (arith, two-pow-succ count))
-pushed-fits false count serial h = rw add-one (omega (arith, two-pow-succ count))
+pushed-fits : (bit : Bool) (o : Offsets) → o .serial < 2 ^ o .count → pushed bit o < 2 ^ (o .count + 1)
+pushed-fits true o h = rw add-one (omega (arith, two-pow-succ (o .count)))
+pushed-fits false o h = rw add-one (omega (arith, two-pow-succ (o .count)))
 
 parallel-fits : (part : Part) (d : ℕ) (o : Offsets) → Fits part o → Fits part (loadParallel part d o)
 unfolding loadParallel
@@ -98,7 +98,7 @@ serial-fits-by part bit o false e f =
       n = f .n;
       m = f .m;
       count = omega arith;
-      serial = pushed-fits bit (o .count) (o .serial) (f .serial);
+      serial = pushed-fits bit o (f .serial);
     }
 
 -- one rule for whatever a test picks

@@ -1,6 +1,5 @@
 // Offsets: reading them at a rise of RCLK, and what Q shows.
 ghost use Rattle.offsets.specs.Reading.{ended, readNext, readingAfter, shown, shownFits};
-ghost use Rattle.offsets.specs.Registers.{offsetAt};
 ghost use mathlib.Core.Path.{_≡_};
 use super::registers::Next;
 use super::registers::Offsets;
@@ -65,19 +64,14 @@ pub fn shown_fits(part: Part, shows: Shows) -> bool
 fn show_next(next: Next, o: Offsets) -> Reading
     ensures { λ r. ⌜ r ≡ readNext next o ⌝ }
 {
-    let offset = offset_at(next, o);
-    let after = super::registers::other_of(next);
-    Reading {
-        next: after,
-        shows: Shows::Offset(offset),
-    }
-}
-
-fn offset_at(next: Next, o: Offsets) -> u16
-    ensures { λ r. ⌜ r ≡ offsetAt next o ⌝ }
-{
     match next {
-        Next::N => o.n,
-        Next::M => o.m,
+        Next::N => Reading {
+            next: Next::M,
+            shows: Shows::Offset(o.n),
+        },
+        Next::M => Reading {
+            next: Next::N,
+            shows: Shows::Offset(o.m),
+        },
     }
 }

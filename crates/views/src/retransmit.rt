@@ -1,6 +1,5 @@
 // Retransmit: how far its setup has come on the read side, and how far the write side has seen it.
-ghost use Rattle.views.specs.Retransmit.{isOver, justBegun, isSeen, counted, looked, setupAfter, viewAfter};
-ghost use mathlib.Core.Bool.{cond};
+ghost use Rattle.views.specs.Retransmit.{isOver, justBegun, isSeen, setupAfter, viewAfter};
 ghost use mathlib.Core.Path.{_≡_};
 
 // How many more RCLK rises the setup lasts.
@@ -51,25 +50,17 @@ pub fn setup_after(rises: bool, rt: bool, setup: Setup) -> Setup
     ensures { λ r. ⌜ r ≡ setupAfter rises rt setup ⌝ }
 {
     if rises {
-        restart_or_count(rt, setup)
+        if rt {
+            match setup {
+                Setup::Over => Setup::Over,
+                Setup::OneMore => Setup::Over,
+                Setup::TwoMore => Setup::OneMore,
+            }
+        } else {
+            Setup::TwoMore
+        }
     } else {
         setup
-    }
-}
-
-fn restart_or_count(rt: bool, setup: Setup) -> Setup
-    ensures { λ r. ⌜ r ≡ cond rt (counted setup) Setup.TwoMore ⌝ }
-{
-    if rt { count(setup) } else { Setup::TwoMore }
-}
-
-fn count(setup: Setup) -> Setup
-    ensures { λ r. ⌜ r ≡ counted setup ⌝ }
-{
-    match setup {
-        Setup::Over => Setup::Over,
-        Setup::OneMore => Setup::Over,
-        Setup::TwoMore => Setup::OneMore,
     }
 }
 
@@ -77,21 +68,18 @@ pub fn view_after(retransmits: bool, rises: bool, from_after: bool, view: View) 
     ensures { λ r. ⌜ r ≡ viewAfter retransmits rises «from_after» view ⌝ }
 {
     if retransmits {
-        return View::Unseen;
-    }
-    if rises { look(from_after, view) } else { view }
-}
-
-fn look(from_after: bool, view: View) -> View
-    ensures { λ r. ⌜ r ≡ looked «from_after» view ⌝ }
-{
-    match view {
-        View::Unseen => if from_after {
-            View::Taken
-        } else {
-            View::Unseen
-        },
-        View::Taken => View::Seen,
-        View::Seen => View::Seen,
+        View::Unseen
+    } else if rises {
+        match view {
+            View::Unseen => if from_after {
+                View::Taken
+            } else {
+                View::Unseen
+            },
+            View::Taken => View::Seen,
+            View::Seen => View::Seen,
+        }
+    } else {
+        view
     }
 }
