@@ -2,7 +2,7 @@
 use Prim.Native.Nat.{ℕ, _+_, _^_, _≤_, _<_}
 use mathlib.Core.Bool.{Bool, true, false, cond, not, _&&_, and-eq-true-iff}
 use mathlib.Core.Logic.{_≢_}
-use mathlib.Core.Path.{_≡_, refl}
+use mathlib.Core.Path.{_≡_, refl, ap, _∙_}
 use lib.Dec.{eqb, ltb}
 use lib.Pow.{pow-lt, pow-pos}
 use borrow.Author.Tests.{ltb-true, lt-ltb, eqb-false}
@@ -70,9 +70,12 @@ either-fits : (first : Bool) (bits a b : ℕ) → a < 2 ^ bits → b < 2 ^ bits 
 either-fits true bits a b f g = f
 either-fits false bits a b f g = g
 
+doubled : (k : ℕ) → 2 ^ (k + 1) ≡ 2 ^ k + 2 ^ k
+doubled k = ap (λ (i : ℕ). 2 ^ i) (add-one k) ∙ two-pow-succ k
+
 pushed-fits : (bit : Bool) (o : Offsets) → o .serial < 2 ^ o .count → pushed bit o < 2 ^ (o .count + 1)
-pushed-fits true o h = rw add-one (omega (arith, two-pow-succ (o .count)))
-pushed-fits false o h = rw add-one (omega (arith, two-pow-succ (o .count)))
+pushed-fits true o h = omega (arith, doubled (o .count))
+pushed-fits false o h = omega (arith, doubled (o .count))
 
 parallel-fits : (part : Part) (d : ℕ) (o : Offsets) → Fits part o → Fits part (loadParallel part d o)
 unfolding loadParallel
