@@ -21,7 +21,7 @@ use Rattle.chip.specs.declared.state.State.{State}
 use Rattle.chip.specs.Answer.{answerOf}
 use Rattle.chip.specs.Reset.{masterReset, partialReset}
 
--- outside reset: every part from the state before the sample, offsets included
+-- outside reset: all from the state before the sample, offsets included
 unfoldable pub running : Part → Pins → ℕ → State → State
 running part p fetched s = record {
   started = s .started;

@@ -1,4 +1,4 @@
--- What callers may know of a refusal, an answer and a store without opening their definitions.
+-- What callers may know of an answer and a store without opening their definitions.
 use Prim.Native.Nat.{ℕ, _^_, _<_}
 use mathlib.Core.Bool.{Bool, true, false, cond, _&&_}
 use mathlib.Core.Path.{_≡_, _∙_}

@@ -26,24 +26,24 @@ unfoldable pub refusesSix : Pins → State → Bool
 refusesSix p s = (writeRises p (s .write) || readRises p (s .read)) && not (p .ld) && severalLow (p .wen) (p .ren) (p .sen)
 
 -- the pin of the loading method that was not selected is LOW
-abbrev pub asksOther : Method → Pins → Bool
-asksOther Parallel p = not (p .sen)
-asksOther Serial p = not (p .wen)
+abbrev pub asksUnselected : Method → Pins → Bool
+asksUnselected Parallel p = not (p .sen)
+asksUnselected Serial p = not (p .wen)
 
 unfoldable pub refusesSeven : Pins → State → Bool
-refusesSeven p s = writeRises p (s .write) && not (p .ld) && asksOther (s .offsets .method) p
+refusesSeven p s = writeRises p (s .write) && not (p .ld) && asksUnselected (s .offsets .method) p
 
 unfoldable pub refusesEight : Pins → State → Bool
 refusesEight p s = retransmits p (s .read) && (not (p .ren) || not (p .wen))
 
 -- D, which counts the output register in FWFT
-abbrev pub deepest : ℕ → Mode → ℕ
-deepest depth Standard = depth
-deepest depth (Fwft untaken) = depth + 1
+abbrev pub capacity : ℕ → Mode → ℕ
+capacity depth Standard = depth
+capacity depth (Fwft untaken) = depth + 1
 
 -- the most words with which a retransmit is taken
 abbrev pub retransmitMost : ℕ → Mode → ℕ
-retransmitMost depth mode = deepest depth mode - 2
+retransmitMost depth mode = capacity depth mode - 2
 
 unfoldable pub refusesNine : ℕ → Pins → State → Bool
 refusesNine depth p s =

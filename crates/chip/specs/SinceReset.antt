@@ -19,7 +19,7 @@ use Rattle.sides.specs.Write.{accepts}
 use Rattle.chip.specs.declared.state.State.{State}
 use Rattle.chip.specs.Advance.{running, stateAfter}
 use Rattle.chip.specs.Refuse.{refusesNine, retransmitMost}
-use Rattle.chip.specs.Reset.{cleared, masterReset, partialReset}
+use Rattle.chip.specs.Reset.{cleared, masterReset, partialReset, poweredUp}
 
 -- words accepted since reset, after one more sample
 abbrev pub acceptedAfter : Part → Pins → State → ℕ → ℕ
@@ -30,6 +30,10 @@ cleared-tallies : (started wclk rclk : Bool) (mode : Mode) (o : Offsets) (readin
     → Tallies 0 (cleared started wclk rclk mode o reading .write)
 unfolding cleared
 cleared-tallies started wclk rclk mode o reading = record { count = refl; wrapped = refl }
+
+pub power-up-tallies : Tallies 0 (poweredUp .write)
+unfolding poweredUp
+power-up-tallies = cleared-tallies _ _ _ _ _ _
 
 tallies-by : (accepted : ℕ) (mrs prs : Bool) (run kept fresh : State) → Tallies accepted (run .write) → Tallies 0 (kept .write) → Tallies 0 (fresh .write)
     → Tallies (cond mrs (cond prs accepted 0) 0) (cond mrs (cond prs run kept) fresh .write)

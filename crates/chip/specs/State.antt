@@ -11,7 +11,7 @@ use Rattle.offsets.specs.Registers.{fit}
 use Rattle.pins.specs.Record.{isWord}
 use Rattle.chip.specs.declared.state.State.{State}
 
--- the part on widths
+-- on widths
 unfoldable pub widths : Part → State → Bool
 widths part s = fit part (s .offsets) && shownFits part (s .reading .shows) && isWord (s .read .output)
 
@@ -19,7 +19,7 @@ widths part s = fit part (s .offsets) && shownFits part (s .reading .shows) && i
 abbrev pub wordsHeld : State → ℕ
 wordsHeld s = ahead (s .write .count) (s .read .count)
 
--- the part on counts: what lies between the write count and the read count, and between it and each stage
+-- on counts: what lies between the write count and the read count, and between it and each stage
 unfoldable pub inReach : ℕ → State → Bool
 inReach depth s =
     leb (wordsHeld s) depth

@@ -5,6 +5,8 @@ use mathlib.Core.Path.{_≡_, refl}
 use borrow.Author.Tests.{lt-ltb}
 use native.Mathlib.Omega.{arith}
 use Rattle.counts.specs.declared.part.Part.{Part}
+use Rattle.counts.specs.Either.{either}
+use Rattle.counts.specs.Part.{depthOf}
 use Rattle.offsets.specs.Fits.{defaults-fit, offsets-stay, shown-stays}
 use Rattle.offsets.specs.Reading.{shownFits}
 use Rattle.offsets.specs.Registers.{fit}
@@ -15,9 +17,14 @@ use Rattle.sides.specs.Read.{delivers, readAfter}
 use Rattle.chip.specs.declared.state.State.{State}
 use Rattle.chip.specs.Advance.{advanced, running, stateAfter}
 use Rattle.chip.specs.Reset.{cleared, masterReset, partialReset}
-use Rattle.chip.specs.State.{widths}
+use Rattle.chip.specs.State.{inReach, passes, widths}
 
--- the test taken apart
+-- a state that passes 3 passes its widths
+pub tested-widths : (part : Part) (s : State) → passes part s ≡ true → widths part s ≡ true
+unfolding passes
+tested-widths part s e = and-eq-true-iff (widths part s) (inReach (depthOf part) s) .0 e .0
+
+-- the test of widths taken apart
 pub record Widths (part : Part) (s : State) : Type 0 where
   pub offsets : fit part (s .offsets) ≡ true
   pub shown : shownFits part (s .reading .shows) ≡ true
@@ -54,16 +61,11 @@ partial-widths : (part : Part) (p : Pins) (s : State) → Widths part s → Widt
 unfolding partialReset cleared
 partial-widths part p s w = record { offsets = w .offsets; shown = refl; output = refl }
 
-after-widths : (part : Part) (mrs prs : Bool) (run kept fresh : State) → Widths part run → Widths part kept → Widths part fresh
-    → Widths part (cond mrs (cond prs run kept) fresh)
-after-widths part true true run kept fresh r k f = r
-after-widths part true false run kept fresh r k f = k
-after-widths part false prs run kept fresh r k f = f
-
 pub widths-stay : (part : Part) (p : Pins) (fetched : ℕ) (s : State) → widths part s ≡ true → widths part (advanced part p fetched s .state) ≡ true
 unfolding advanced stateAfter
 widths-stay part p fetched s e =
     let w = apart part s e in
     together part (stateAfter part p fetched s)
-    (after-widths part (p .mrs) (p .prs) (running part p fetched s) (partialReset p s) (masterReset p)
-    (running-widths part p fetched s w) (partial-widths part p s w) (master-widths part p))
+    (either (Widths part) (p .mrs) _ (masterReset p)
+    (either (Widths part) (p .prs) (running part p fetched s) (partialReset p s) (running-widths part p fetched s w) (partial-widths part p s w))
+    (master-widths part p))

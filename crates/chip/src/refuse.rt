@@ -1,5 +1,5 @@
 // What is turned away: 5 to 10.
-ghost use Rattle.chip.specs.Refuse.{Refuses, retransmitMost, refusesEight, refusesFive, refusesNine, refusesSeven, refusesSix, refusesTen, severalLow, asksOther};
+ghost use Rattle.chip.specs.Refuse.{Refuses, retransmitMost, refusesEight, refusesFive, refusesNine, refusesSeven, refusesSix, refusesTen, severalLow, asksUnselected};
 ghost use Rattle.counts.specs.Part.{depthOf};
 ghost use mathlib.Core.Bool.{cond};
 ghost use mathlib.Core.Path.{_≡_};
@@ -12,6 +12,7 @@ use sides::read::Mode;
 pub fn refusal(part: Part, p: Pins, s: State) -> u8
     ensures { λ r. ⌜ Refuses part p s r ⌝ }
 {
+    // From the last check to the first, so that the first that applies decides.
     let from_ten = pick(refuses_ten(p, s), 10, 0);
     let from_nine = pick(refuses_nine(part, p, s), 9, from_ten);
     let from_eight = pick(refuses_eight(p, s), 8, from_nine);
@@ -45,7 +46,7 @@ fn refuses_seven(p: Pins, s: State) -> bool
 {
     let offsets = s.offsets;
     let method = offsets.method;
-    sides::clocks::write_rises(p, s.write) & !p.ld & asks_other(method, p)
+    sides::clocks::write_rises(p, s.write) & !p.ld & asks_unselected(method, p)
 }
 
 fn refuses_eight(p: Pins, s: State) -> bool
@@ -78,8 +79,8 @@ fn several_low(wen: bool, ren: bool, sen: bool) -> bool
     !wen & !ren | !wen & !sen | !ren & !sen
 }
 
-fn asks_other(method: Method, p: Pins) -> bool
-    ensures { λ r. ⌜ r ≡ asksOther method p ⌝ }
+fn asks_unselected(method: Method, p: Pins) -> bool
+    ensures { λ r. ⌜ r ≡ asksUnselected method p ⌝ }
 {
     match method {
         Method::Parallel => !p.sen,

@@ -24,7 +24,7 @@ pub fn power_up() -> State
     clear(false, true, true, Mode::Standard, offsets, reading)
 }
 
-pub fn reset_master(p: Pins) -> State
+pub(crate) fn reset_master(p: Pins) -> State
     ensures { λ r. ⌜ r ≡ masterReset p ⌝ }
 {
     let mode = select_mode(p.fwft);
@@ -33,7 +33,7 @@ pub fn reset_master(p: Pins) -> State
     clear(true, p.wclk, p.rclk, mode, offsets, reading)
 }
 
-pub fn reset_partial(p: Pins, s: State) -> State
+pub(crate) fn reset_partial(p: Pins, s: State) -> State
     ensures { λ r. ⌜ r ≡ partialReset p s ⌝ }
 {
     let read = s.read;

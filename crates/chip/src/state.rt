@@ -39,11 +39,11 @@ fn is_in_reach(part: Part, s: State) -> bool
     let depth = counts::part::depth(part);
     let count = s.write.count;
     let held = counts::round::words_ahead(count, s.read.count);
-    let beyond_second = counts::round::words_behind(count, s.read.second);
+    let second_behind = counts::round::words_behind(count, s.read.second);
     (held <= depth)
         & (counts::round::words_ahead(count, s.write.first) <= depth)
         & (counts::round::words_ahead(count, s.write.second) <= depth)
         & (counts::round::words_behind(count, s.read.first) <= depth)
-        & (beyond_second <= depth)
-        & (beyond_second <= held)
+        & (second_behind <= depth)
+        & (second_behind <= held)
 }

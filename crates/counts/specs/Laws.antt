@@ -7,7 +7,7 @@ use lib.Pow.{pow-pos, pow-mono, mod-mod-pow}
 use borrow.Author.Tests.{ltb-true, ltb-false}
 use native.Mathlib.Nat.{mod-lt, mod-add-mod, mod-eq-of-lt, mod-eq-sub-mod, add-mod-right, add-mul-mod-self-right, div-add-mod'}
 use native.Mathlib.Omega.{arith}
-use Rattle.counts.specs.Round.{less, more, placeOf}
+use Rattle.counts.specs.Round.{ahead, behind, less, more, placeOf, width}
 
 pub place-below : (k count : ℕ) → placeOf (2 ^ k) count < 2 ^ k
 place-below k count = mod-lt count (pow-pos k)
@@ -25,6 +25,14 @@ less-true around a b h l =
 pub less-exact : (j k a b : ℕ) → 1 ≤ j → b ≤ a → a ≤ b + 2 ^ k → less (2 ^ (j + k)) (a % 2 ^ (j + k)) (b % 2 ^ (j + k)) ≡ a - b
 less-exact j k a b h l d =
     less-true (2 ^ (j + k)) a b l (omega (arith, pow-mono {i = suc k} {j = j + k} (omega arith), pow-pos k))
+
+pub ahead-exact : (write read : ℕ) → read ≤ write → write < read + width
+    → ahead (record { 0 = write % width }) (record { 0 = read % width }) ≡ write - read
+ahead-exact = less-true width
+
+pub behind-exact : (write earlier : ℕ) → earlier ≤ write → write < earlier + width
+    → behind (record { 0 = write % width }) (record { 0 = earlier % width }) ≡ write - earlier
+behind-exact = less-true width
 
 -- an earlier count and what lies between give the count again
 less-back : (around a b : ℕ) → a < around → b < around → (b + less around a b) % around ≡ a

@@ -1,3 +1,4 @@
+pub mod Either
 pub mod Part
 pub mod PartLaws
 pub mod Round

@@ -1,3 +1,3 @@
-// The two counts and the parts: what the numbers are that everything above counts with.
+// The two counts, round their width, and the two parts.
 pub mod part;
 pub mod round;

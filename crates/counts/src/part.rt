@@ -1,4 +1,4 @@
-// Parts and paper authority: which parts there are, and what each is looked up to.
+// Parts and paper authority: the two parts, by their numbers, with their depth and the width of their offsets.
 ghost use Rattle.counts.specs.Part.{aboveBits, depthOf, lowBits, offsetBits, partOf, serialBits, within};
 ghost use mathlib.Core.Path.{_≡_};
 

@@ -1,4 +1,4 @@
--- What is turned away, 3, on the offsets: the test read as bounds, and picked by loading and reading.
+-- What is turned away, 3, on the offsets: the test read as bounds, and kept by loading and reading.
 use Prim.Native.Nat.{ℕ, _+_, _^_, _≤_, _<_}
 use mathlib.Core.Bool.{Bool, true, false, cond, not, _&&_, and-eq-true-iff}
 use mathlib.Core.Logic.{_≢_}
@@ -11,6 +11,7 @@ use native.Mathlib.Numerals.{add-one}
 use native.Mathlib.Omega.{arith}
 use Rattle.counts.specs.declared.part.Part.{Part}
 use Rattle.counts.specs.declared.part.Part.the-variants.{Idt72V255LA, Idt72V265LA}
+use Rattle.counts.specs.Either.{either}
 use Rattle.counts.specs.Part.{aboveBits, lowBits, offsetBits, serialBits, within}
 use Rattle.pins.specs.declared.record.Pins.{Pins}
 use Rattle.offsets.specs.declared.registers.Offsets.{Offsets}
@@ -65,11 +66,6 @@ serial-small part o e =
 low-fits : (bits x : ℕ) → lowBits bits x < 2 ^ bits
 low-fits bits x = mod-lt x (pow-pos bits)
 
--- whichever of two fits
-either-fits : (first : Bool) (bits a b : ℕ) → a < 2 ^ bits → b < 2 ^ bits → cond first a b < 2 ^ bits
-either-fits true bits a b f g = f
-either-fits false bits a b f g = g
-
 doubled : (k : ℕ) → 2 ^ (k + 1) ≡ 2 ^ k + 2 ^ k
 doubled k = ap (λ (i : ℕ). 2 ^ i) (add-one k) ∙ two-pow-succ k
 
@@ -80,8 +76,8 @@ pushed-fits false o h = omega (arith, doubled (o .count))
 parallel-fits : (part : Part) (d : ℕ) (o : Offsets) → Fits part o → Fits part (loadParallel part d o)
 unfolding loadParallel
 parallel-fits part d o f = record {
-  n = either-fits (isN (o .next)) (offsetBits part) _ _ (low-fits (offsetBits part) d) (f .n);
-  m = either-fits (isN (o .next)) (offsetBits part) _ _ (f .m) (low-fits (offsetBits part) d);
+  n = either (λ (x : ℕ). x < 2 ^ offsetBits part) (isN (o .next)) _ _ (low-fits (offsetBits part) d) (f .n);
+  m = either (λ (x : ℕ). x < 2 ^ offsetBits part) (isN (o .next)) _ _ (f .m) (low-fits (offsetBits part) d);
   count = f .count;
   serial = f .serial;
 }
@@ -104,16 +100,11 @@ serial-fits-by part bit o false e f =
       serial = pushed-fits bit o (f .serial);
     }
 
--- one rule for whatever a test picks
-picked : (P : Offsets → Type 0) (first : Bool) (a b : Offsets) → P a → P b → P (cond first a b)
-picked P true a b f g = f
-picked P false a b f g = g
-
 loaded-fits : (part : Part) (p : Pins) (method : Method) (o : Offsets) → Fits part o → Fits part (loadedBy method part p o)
 unfolding loadedBy loadSerial
-loaded-fits part p Parallel o f = picked (Fits part) (p .wen) o (loadParallel part (p .d) o) f (parallel-fits part (p .d) o f)
+loaded-fits part p Parallel o f = either (Fits part) (p .wen) o (loadParallel part (p .d) o) f (parallel-fits part (p .d) o f)
 loaded-fits part p Serial o f =
-    picked (Fits part) (p .sen) o (loadSerial part (p .fwft) o) f
+    either (Fits part) (p .sen) o (loadSerial part (p .fwft) o) f
     (serial-fits-by part (p .fwft) o (eqb (o .count + 1) (serialBits part)) refl f)
 
 pub offsets-stay : (part : Part) (p : Pins) (rises : Bool) (o : Offsets) → fit part o ≡ true → fit part (offsetsAfter part p rises o) ≡ true
@@ -121,7 +112,7 @@ unfolding offsetsAfter
 offsets-stay part p rises o e =
     let f = fits part o e in
     fitting part (offsetsAfter part p rises o)
-    (picked (Fits part) (rises && not (p .ld)) (loadedBy (o .method) part p o) o (loaded-fits part p (o .method) o f) f)
+    (either (Fits part) (rises && not (p .ld)) (loadedBy (o .method) part p o) o (loaded-fits part p (o .method) o f) f)
 
 pub defaults-fit : (part : Part) (ld : Bool) → fit part (defaults ld) ≡ true
 unfolding fit defaults

@@ -2,3 +2,4 @@ pub mod Registers
 pub mod Loading
 pub mod Reading
 pub mod Fits
+pub mod Laws

@@ -1,7 +1,7 @@
 // Offsets: parallel and serial loading, at a rise of WCLK.
 ghost use Prim.Native.Nat.{_+_};
 ghost use Rattle.offsets.specs.Loading.{loadParallel, loadSerial, loadedBy, offsetsAfter, pushed};
-ghost use Rattle.offsets.specs.Registers.{fit, isN};
+ghost use Rattle.offsets.specs.Registers.{fit, isN, other};
 ghost use mathlib.Core.Bool.{cond, true};
 ghost use mathlib.Core.Path.{_≡_};
 use super::registers::Method;
@@ -49,7 +49,7 @@ fn load_parallel(part: Part, d: u32, o: Offsets) -> Offsets
     let n = pick(to_n, offset, o.n);
     let m = pick(to_n, o.m, offset);
     let method = o.method;
-    let after = super::registers::other_of(next);
+    let after = other_of(next);
     Offsets {
         n: n,
         m: m,
@@ -109,6 +109,15 @@ fn is_n(next: Next) -> bool
     match next {
         Next::N => true,
         Next::M => false,
+    }
+}
+
+fn other_of(next: Next) -> Next
+    ensures { λ r. ⌜ r ≡ other next ⌝ }
+{
+    match next {
+        Next::N => Next::M,
+        Next::M => Next::N,
     }
 }
 

@@ -1,6 +1,6 @@
 // Offsets: what is kept of them between two samples, and what a Master Reset makes it.
 ghost use Rattle.counts.specs.Part.{serialBits};
-ghost use Rattle.offsets.specs.Registers.{defaultOffset, defaults, fit, methodOf, other, serialFits};
+ghost use Rattle.offsets.specs.Registers.{defaultOffset, defaults, fit, methodOf, serialFits};
 ghost use Prim.Native.Nat.{_^_};
 ghost use lib.Dec.{ltb};
 ghost use mathlib.Core.Path.{_≡_};
@@ -40,15 +40,6 @@ pub fn reset_offsets(ld: bool) -> Offsets
         next: Next::N,
         serial: 0,
         count: 0,
-    }
-}
-
-pub fn other_of(next: Next) -> Next
-    ensures { λ r. ⌜ r ≡ other next ⌝ }
-{
-    match next {
-        Next::N => Next::M,
-        Next::M => Next::N,
     }
 }
 

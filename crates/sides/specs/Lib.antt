@@ -1,4 +1,5 @@
 pub mod Clocks
 pub mod Read
 pub mod Write
+pub mod Laws
 pub mod SinceReset

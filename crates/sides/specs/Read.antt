@@ -48,15 +48,12 @@ abbrev pub modeAfter : Mode → Bool → Bool → Bool → Mode
 modeAfter Standard retransmitted delivered read = Standard
 modeAfter (Fwft untaken) retransmitted delivered read = Fwft (not retransmitted && (delivered || untaken && not read))
 
-unfoldable pub countAfter : Bool → Bool → ReadCount → ReadCount
-countAfter retransmitted delivered count = cond retransmitted (record { 0 = 0 }) (nextRead delivered count)
-
 -- a delivery fills the output register from the fetched word, and nothing else changes it
 abbrev pub registerAfter : Bool → ℕ → ℕ → ℕ
 registerAfter delivered fetched output = cond delivered (word fetched) output
 
 unfoldable pub readCountAfter : Pins → ReadSide → ReadCount
-readCountAfter p r = countAfter (retransmits p r) (delivers p r) (r .count)
+readCountAfter p r = cond (retransmits p r) (record { 0 = 0 }) (nextRead (delivers p r) (r .count))
 
 -- after a rise the second stage holds what the first held
 unfoldable pub secondAfterRead : Pins → ReadSide → WriteCount

@@ -1,5 +1,5 @@
 // The two sides, RCLK rise in both timing modes; and Retransmit on the read side.
-ghost use Rattle.sides.specs.Read.{countAfter, delivers, deliversBy, modeAfter, readAfter, reads, ready, readyBy, registerAfter, retransmits, seesWord};
+ghost use Rattle.sides.specs.Read.{delivers, deliversBy, modeAfter, readAfter, reads, ready, readyBy, registerAfter, retransmits, seesWord};
 ghost use mathlib.Core.Path.{_≡_};
 use super::write::WriteSide;
 use counts::round::ReadCount;
@@ -41,13 +41,13 @@ pub fn is_ready(r: ReadSide) -> bool
     ready_by(mode, sees_word(r))
 }
 
-pub fn is_read(p: Pins, r: ReadSide) -> bool
+fn is_read(p: Pins, r: ReadSide) -> bool
     ensures { λ b. ⌜ b ≡ reads p r ⌝ }
 {
     super::clocks::read_rises(p, r) & p.ld & !p.ren & p.rt & is_ready(r)
 }
 
-pub fn is_delivered(p: Pins, r: ReadSide) -> bool
+fn is_delivered(p: Pins, r: ReadSide) -> bool
     ensures { λ b. ⌜ b ≡ delivers p r ⌝ }
 {
     let mode = r.mode;
@@ -64,7 +64,8 @@ pub fn read_after(n: u16, p: Pins, fetched: u32, w: WriteSide, r: ReadSide) -> R
     let rises = super::clocks::read_rises(p, r);
     let retransmits = is_retransmit(p, r);
     let delivered = is_delivered(p, r);
-    let count = count_after(retransmits, delivered, r.count);
+    let moved = counts::round::next_read(delivered, r.count);
+    let count = views::stages::pick_read(retransmits, ReadCount(0), moved);
     let latest = r.latest;
     let taken = views::stages::take_write(p.skew.read, latest, w.count);
     let first = views::stages::pick_write(rises, taken, r.first);
@@ -126,16 +127,6 @@ fn mode_after(mode: Mode, retransmits: bool, delivered: bool, read: bool) -> Mod
             untaken: !retransmits & (delivered | untaken & !read),
         },
     }
-}
-
-fn count_after(retransmits: bool, delivered: bool, count: ReadCount) -> ReadCount
-    ensures { λ q. ⌜ q ≡ countAfter retransmits delivered count ⌝ }
-{
-    views::stages::pick_read(
-        retransmits,
-        ReadCount(0),
-        counts::round::next_read(delivered, count),
-    )
 }
 
 fn register_after(delivered: bool, fetched: u32, output: u32) -> u32

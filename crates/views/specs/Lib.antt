@@ -1,3 +1,4 @@
 pub mod Flags
 pub mod Stages
 pub mod Retransmit
+pub mod Laws

@@ -33,10 +33,10 @@ isSeen Seen = true
 
 -- one rise of WCLK, by whether the read count that it takes is from after the retransmit
 abbrev pub looked : Bool → View → View
-looked fromAfter Unseen = cond fromAfter Taken Unseen
-looked fromAfter Taken = Seen
-looked fromAfter Seen = Seen
+looked afterRetransmit Unseen = cond afterRetransmit Taken Unseen
+looked afterRetransmit Taken = Seen
+looked afterRetransmit Seen = Seen
 
 -- the write side's view after a sample, by whether it retransmits and whether WCLK rises in it: the retransmit counts as later
 abbrev pub viewAfter : Bool → Bool → Bool → View → View
-viewAfter retransmits rises fromAfter view = cond retransmits Unseen (cond rises (looked fromAfter view) view)
+viewAfter retransmits rises afterRetransmit view = cond retransmits Unseen (cond rises (looked afterRetransmit view) view)

@@ -64,14 +64,14 @@ pub fn setup_after(rises: bool, rt: bool, setup: Setup) -> Setup
     }
 }
 
-pub fn view_after(retransmits: bool, rises: bool, from_after: bool, view: View) -> View
-    ensures { λ r. ⌜ r ≡ viewAfter retransmits rises «from_after» view ⌝ }
+pub fn view_after(retransmits: bool, rises: bool, after_retransmit: bool, view: View) -> View
+    ensures { λ r. ⌜ r ≡ viewAfter retransmits rises «after_retransmit» view ⌝ }
 {
     if retransmits {
         View::Unseen
     } else if rises {
         match view {
-            View::Unseen => if from_after {
+            View::Unseen => if after_retransmit {
                 View::Taken
             } else {
                 View::Unseen

@@ -1,0 +1,31 @@
+use Rattle.pins.specs.Trace.{wordAt}
+use borrow.Author.Needs.{needs}
+use Rattle.pins.proofs.trace.word_at.Statement.{statement}
+use Rattle.pins.proofs.trace.word_at.Tie as tie
+
+returns : tie.Need-returns
+unfolding wordAt
+returns c = cc
+
+pub word-at-spec : {M : Type 1} → statement M
+word-at-spec =
+    tie.close
+    (tie.spec
+    (λ c. search needs)
+    (λ c κs. search needs)
+    (λ c. search needs)
+    (λ c. search needs)
+    (λ c. search needs)
+    (λ c κs. search needs)
+    (λ c. search needs)
+    (λ c. search needs)
+    (λ c. search needs)
+    (λ c. search needs)
+    (λ c κs. search needs)
+    (λ c. search needs)
+    (λ c. search needs)
+    (λ c. search needs)
+    (λ c. search needs)
+    (λ c κs. search needs)
+    (λ c. search needs)
+    returns)
