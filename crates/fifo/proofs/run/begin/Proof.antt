@@ -1,0 +1,94 @@
+use mathlib.Core.Path.{sym, _∙_}
+use mathlib.Core.Bool.{and-eq-true-iff}
+use denote.Ref.{now}
+use borrow.Author.Needs.{needs}
+use Rattle.chip.specs.Widths.{tested-widths}
+use Rattle.fifo.specs.Run.{started}
+use Rattle.fifo.proofs.RunLaws.{ends-by, room-told, run-room, run-state, run-unknown, run-works, turned-away}
+use Rattle.fifo.proofs.run.begin.Statement.{statement}
+use Rattle.fifo.proofs.run.begin.Tie as tie
+
+returns : tie.Need-returns
+returns c =
+    let looked = c .before .before .before in
+    let a = looked .before .before .before .before .before .args in
+    turned-away
+    (run-unknown (a .lenient) (a .part) (now (a .trace)) (started (a .state) (now (a .memory)) (now (a .answers)) (now (a .marks)))
+    (looked .look-up .ensures) (c .before .enum-told .given .1))
+    (c .turn-away .ensures)
+
+go-requires : tie.Need-go-requires
+go-requires c κs =
+    let tested = c .before .before .before .before in
+    let roomy = tested .before .before in
+    let sized = roomy .before in
+    let a = sized .before .before .before .before .before .before .before .before .before .args in (
+      tested-widths _ (a .state) (sym (tested .passes-test .ensures) ∙ c .before .before .before .if2 .taken),
+      room-told (a .lenient) _ _ _ (sym (roomy .is-roomy .ensures) ∙ and-eq-true-iff (sized .is-depth .result) (roomy .is-roomy .result) .0 (tested .before .if1 .taken) .1),
+    )
+
+returns-2 : tie.Need-returns-2
+returns-2 c =
+    let work = c .before .before .before .before .before .before in
+    let tested = work .before .before .before .before .before in
+    let roomy = tested .before .before in
+    let sized = roomy .before in
+    let known = sized .before .before in
+    let looked = known .before .before in
+    let a = looked .before .before .before .before .before .args in
+    ends-by
+    (run-works (a .lenient) (a .part) (now (a .trace)) (started (a .state) (now (a .memory)) (now (a .answers)) (now (a .marks)))
+    (looked .look-up .ensures) _ (known .looked-up .given .1)
+    (sym (cc (sized .is-depth .ensures, roomy .is-roomy .ensures)) ∙ tested .before .if1 .taken)
+    (sym (tested .passes-test .ensures) ∙ work .before .before .before .before .if2 .taken))
+    (work .go .ensures)
+
+returns-3 : tie.Need-returns-3
+returns-3 c =
+    let tested = c .before .before in
+    let roomy = tested .before .before in
+    let sized = roomy .before in
+    let known = sized .before .before in
+    let looked = known .before .before in
+    let a = looked .before .before .before .before .before .args in
+    turned-away
+    (run-state (a .lenient) (a .part) (now (a .trace)) (started (a .state) (now (a .memory)) (now (a .answers)) (now (a .marks)))
+    (looked .look-up .ensures) _ (known .looked-up .given .1)
+    (sym (cc (sized .is-depth .ensures, roomy .is-roomy .ensures)) ∙ tested .before .if1 .taken)
+    (sym (tested .passes-test .ensures) ∙ c .before .if2 .left))
+    (c .turn-away2 .ensures)
+
+returns-4 : tie.Need-returns-4
+returns-4 c =
+    let roomy = c .before .before in
+    let sized = roomy .before in
+    let known = sized .before .before in
+    let looked = known .before .before in
+    let a = looked .before .before .before .before .before .args in
+    turned-away
+    (run-room (a .lenient) (a .part) (now (a .trace)) (started (a .state) (now (a .memory)) (now (a .answers)) (now (a .marks)))
+    (looked .look-up .ensures) _ (known .looked-up .given .1)
+    (sym (cc (sized .is-depth .ensures, roomy .is-roomy .ensures)) ∙ c .before .if1 .left))
+    (c .turn-away3 .ensures)
+
+pub begin-spec : {M : Type 1} → statement M
+begin-spec =
+    tie.close
+    (tie.spec
+    (λ c κs. search needs)
+    (λ c. search needs)
+    (λ c. search needs)
+    (λ c κs. search needs)
+    returns
+    (λ c κs. search needs)
+    (λ c κs. search needs)
+    (λ c κs. search needs)
+    go-requires
+    (λ c κs. search needs)
+    (λ c κs. search needs)
+    (λ c. search needs)
+    (λ c. search needs)
+    (λ c. search needs)
+    returns-2
+    returns-3
+    returns-4)

@@ -1,0 +1,115 @@
+use Prim.Native.Nat.{_-_}
+use mathlib.Core.Path.{refl, sym, _∙_}
+use denote.Ref.{now}
+use borrow.Author.Needs.{needs}
+use native.Mathlib.Omega.{arith}
+use Rattle.pins.specs.Trace.{wholeRecords}
+use Rattle.pins.specs.TraceLaws.{whole-below}
+use Rattle.fifo.specs.Run.{started}
+use Rattle.fifo.proofs.RunLaws.{Going, ended-now, going, no-whole, stopped-now, turned-now}
+use Rattle.fifo.proofs.run.go.Statement.{statement}
+use Rattle.fifo.proofs.run.go.Tie as tie
+
+abbrev Inv-loop : tie.InvT-loop
+Inv-loop lenient part trace memory₀ answers₀ marks₀ s₀ accepted₀ index₀ memory answers marks s accepted index =
+    Going lenient part trace (started s₀ memory₀ answers₀ marks₀)
+    (record { state = s; accepted = accepted; memory = memory; answers = answers; marks = marks }) index
+
+abbrev μ-loop : tie.MeasureT-loop
+μ-loop lenient part trace memory₀ answers₀ marks₀ s₀ accepted₀ index₀ memory answers marks s accepted index = wholeRecords trace - index
+
+loop-holds : tie.Need-loop-holds Inv-loop μ-loop
+loop-holds c =
+    let start = c .before .before .before .before in
+    let a = start .args in
+    going (a .lenient) (a .part) (now (a .trace)) (started (a .state) (now (a .memory)) (now (a .answers)) (now (a .marks))) (start .pre .0) refl
+
+returns : tie.Need-returns Inv-loop μ-loop
+returns c =
+    let told = c .before .before in
+    ended-now (told .before .loop .inv) (told .record-at .ensures) (no-whole (told .record-at .result) (c .before .match .keys2)) (c .ending .ensures)
+
+step-requires : tie.Need-step-requires Inv-loop μ-loop
+step-requires c κs = c .before .before .before .before .before .loop .inv .fits
+
+returns-2 : tie.Need-returns-2 Inv-loop μ-loop
+returns-2 c =
+    let stop = c .before .before in
+    let stepped = stop .before .before .before .before in
+    let whole = stepped .before .before .before in
+    let told = whole .before .before in
+    stopped-now (told .before .loop .inv) (told .record-at .ensures) (whole .«record» .given .1) (stepped .step .ensures) (stop .is-stop .ensures)
+    (c .before .if1 .taken) (c .number-of .ensures)
+
+note-answer-requires : tie.Need-note-answer-requires Inv-loop μ-loop
+note-answer-requires c κs =
+    let whole = c .before .before .before .before .before .before .before .before .before in
+    let told = whole .before .before in
+    let loop = told .before in
+    omega (
+      arith,
+      whole-below _ _ (sym (told .record-at .ensures) ∙ whole .«record» .given .1),
+      loop .loop .inv .room,
+      loop .before .before .before .before .before .pre .1,
+    )
+
+count-requires : tie.Need-count-requires Inv-loop μ-loop
+count-requires c κs =
+    let whole = c .before .before .before .before .before .before .before .before .before .before .before .before .before .before .before .before in
+    let told = whole .before .before in
+    let loop = told .before in
+    omega (arith, whole-below _ _ (sym (told .record-at .ensures) ∙ whole .«record» .given .1), loop .loop .inv .counted, loop .before .before .before .before .before .good)
+
+add-index : tie.Need-add-index Inv-loop μ-loop
+add-index c =
+    let whole = c .before .before .before .before .before .before .before .before .before .before .before .before .before .before .before .before .before in
+    let told = whole .before .before in
+    let loop = told .before in
+    omega (arith, whole-below _ _ (sym (told .record-at .ensures) ∙ whole .«record» .given .1), loop .before .before .before .before .before .good)
+
+loop-less : tie.Need-loop-less Inv-loop μ-loop
+loop-less c =
+    let whole = c .before .before .before .before .before .before .before .before .before .before .before .before .before .before .before .before .before in
+    let told = whole .before .before in
+    let loop = told .before in
+    omega (arith, whole-below _ _ (sym (told .record-at .ensures) ∙ whole .«record» .given .1))
+
+loop-again : tie.Need-loop-again Inv-loop μ-loop
+loop-again c =
+    let mark = c .before .before .before in
+    let answer = mark .before .before .before .before in
+    let goes-on = answer .before .before in
+    let stop = goes-on .before in
+    let stepped = stop .before .before .before .before in
+    let whole = stepped .before .before .before in
+    let told = whole .before .before in
+    turned-now (told .before .loop .inv) (told .record-at .ensures) (whole .«record» .given .1) (stepped .step .ensures) (stop .is-stop .ensures)
+    (goes-on .if1 .left) (answer .note-answer .ensures) (mark .note-mark .ensures) (c .count .ensures)
+
+pub go-spec : {M : Type 1} → statement M
+go-spec =
+    tie.close
+    (tie.spec
+    Inv-loop
+    μ-loop
+    loop-holds
+    (λ c κs. search needs)
+    (λ c. search needs)
+    (λ c κs. search needs)
+    (λ c. search needs)
+    (λ c. search needs)
+    (λ c. search needs)
+    returns
+    step-requires
+    (λ c κs. search needs)
+    (λ c κs. search needs)
+    (λ c. search needs)
+    (λ c. search needs)
+    (λ c. search needs)
+    returns-2
+    note-answer-requires
+    (λ c κs. search needs)
+    count-requires
+    add-index
+    loop-less
+    loop-again)

@@ -1,0 +1,9 @@
+use Rattle.fifo.proofs.RunLaws.{room-by-thirds}
+use Rattle.fifo.proofs.run.is_roomy.Statement.{statement}
+use Rattle.fifo.proofs.run.is_roomy.Tie as tie
+
+returns : tie.Need-returns
+returns c = let a = c .args in room-by-thirds (a .lenient) (a .whole) (a .answers) (a .marks)
+
+pub is-roomy-spec : {M : Type 1} → statement M
+is-roomy-spec = tie.close (tie.spec returns)

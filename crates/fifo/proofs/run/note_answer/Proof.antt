@@ -1,0 +1,14 @@
+use borrow.Author.Needs.{needs}
+use Rattle.fifo.proofs.run.note_answer.Statement.{statement}
+use Rattle.fifo.proofs.run.note_answer.Tie as tie
+
+returns : tie.Need-returns
+returns c = simp (c .before .before .put-answer .ensures, c .before .before .before .before .before .outcome .given .1)
+
+returns-2 : tie.Need-returns-2
+returns-2 c = simp (c .enum-told .given .1)
+
+pub note-answer-spec : {M : Type 1} → statement M
+note-answer-spec =
+    tie.close
+    (tie.spec (λ c. search needs) (λ c κs. search needs) (λ c. search needs) (λ c. search needs) returns returns-2)

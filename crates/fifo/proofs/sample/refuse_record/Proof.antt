@@ -1,0 +1,12 @@
+use borrow.Author.Needs.{needs}
+use Rattle.fifo.proofs.sample.refuse_record.Statement.{statement}
+use Rattle.fifo.proofs.sample.refuse_record.Tie as tie
+
+returns : tie.Need-returns
+returns c = simp (c .if1 .taken)
+
+returns-2 : tie.Need-returns-2
+returns-2 c = simp (c .refusal .ensures, c .before .if1 .left)
+
+pub refuse-record-spec : {M : Type 1} → statement M
+refuse-record-spec = tie.close (tie.spec (λ c κs. search needs) returns returns-2)

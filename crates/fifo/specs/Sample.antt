@@ -1,0 +1,83 @@
+-- One sample over a memory: What is turned away, and what a taken one gives.
+use Prim.Native.Nat.{ℕ}
+use mathlib.Core.Bool.{Bool, cond}
+use mathlib.Core.List.{List}
+use mathlib.Core.Path.{_≡_}
+use lib.Dec.{eqb}
+use lib.ListN.{getD, length}
+use Rattle.chip.specs.declared.advance.Advanced.{Advanced}
+use Rattle.chip.specs.declared.state.State.{State}
+use Rattle.chip.specs.Advance.{advanced, stored}
+use Rattle.chip.specs.Refuse.{refusalOf}
+use Rattle.chip.specs.State.{passes}
+use Rattle.counts.specs.declared.part.Lookup.{Lookup}
+use Rattle.counts.specs.declared.part.Lookup.the-variants.{Known, Unknown}
+use Rattle.counts.specs.declared.part.Part.{Part}
+use Rattle.counts.specs.Part.{depthOf, partOf}
+use Rattle.counts.specs.Round.{placeOf}
+use Rattle.pins.specs.declared.record.Pins.{Pins}
+use Rattle.pins.specs.Record.{bit, pinsOf}
+use Rattle.fifo.specs.declared.sample.Outcome.{Outcome}
+use Rattle.fifo.specs.declared.sample.Outcome.the-variants.{Taken, Refused}
+use Rattle.fifo.specs.declared.sample.Sampled.{Sampled}
+
+-- the refusal's number, 0 where the sample is taken
+abbrev pub numberOf : Outcome → ℕ
+numberOf (Taken answer) = 0
+numberOf (Refused number) = number
+
+-- what comes back of a sample, and the memory's words after it
+pub record After : Type 0 where
+  pub sampled : Sampled
+  pub memory : List ℕ
+
+-- refused: a number, and nothing moved
+abbrev pub turnedAway : ℕ → State → List ℕ → After
+turnedAway number s memory = record { sampled = record { outcome = Refused number; state = s }; memory = memory }
+
+abbrev pub took : Advanced → List ℕ → After
+took a memory = record { sampled = record { outcome = Taken (a .answer); state = a .state }; memory = stored (a .store) memory }
+
+-- the word at the place of the read count
+abbrev pub fetchedFor : Part → State → List ℕ → ℕ
+fetchedFor part s memory = getD memory (placeOf (depthOf part) (s .read .count .0)) 0
+
+unfoldable pub taken : Part → Pins → State → List ℕ → After
+taken part p s memory = took (advanced part p (fetchedFor part s memory) s) memory
+
+-- 4 on bit 18, then 5 to 10 on the pins
+abbrev pub refusedOn : Part → ℕ → Pins → State → ℕ
+refusedOn part x p s = cond (bit 18 x) 4 (refusalOf part p s)
+
+unfoldable pub recordRefusal : Part → ℕ → State → ℕ
+recordRefusal part x s = refusedOn part x (pinsOf x) s
+
+-- one record, for a part, a memory and a state that have passed 1 to 3
+unfoldable pub stepped : Part → ℕ → State → List ℕ → After
+stepped part x s memory = cond (eqb (recordRefusal part x s) 0) (taken part (pinsOf x) s memory) (turnedAway (recordRefusal part x s) s memory)
+
+abbrev pub byPart : Lookup → (Part → After) → After → After
+byPart (Known part) known unknown = known part
+byPart Unknown known unknown = unknown
+
+-- as many words as the part is deep
+abbrev pub isDepth : Part → ℕ → Bool
+isDepth part words = eqb words (depthOf part)
+
+-- 1, 2, 3, and then the record
+unfoldable pub sampled : ℕ → ℕ → State → List ℕ → After
+sampled number x s memory =
+    byPart (partOf number)
+    (λ part. cond (isDepth part (length memory)) (cond (passes part s) (stepped part x s memory) (turnedAway 3 s memory)) (turnedAway 2 s memory))
+    (turnedAway 1 s memory)
+
+-- a result and a memory that are those of a definition
+pub record Gives (expected : After) (r : Sampled) (memory : List ℕ) : Type 0 where
+  pub result : r ≡ expected .sampled
+  pub words : memory ≡ expected .memory
+
+abbrev pub Steps : Part → ℕ → State → List ℕ → Sampled → List ℕ → Type 0
+Steps part x s memory r after = Gives (stepped part x s memory) r after
+
+abbrev pub Samples : ℕ → ℕ → State → List ℕ → Sampled → List ℕ → Type 0
+Samples number x s memory r after = Gives (sampled number x s memory) r after

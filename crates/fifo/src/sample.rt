@@ -1,0 +1,100 @@
+// One sample over a lent memory.
+ghost use Rattle.chip.specs.State.{widths};
+ghost use Rattle.fifo.specs.Sample.{Gives, Samples, Steps, isDepth, refusedOn, taken};
+ghost use mathlib.Core.Bool.{true};
+ghost use mathlib.Core.Path.{_≡_};
+use chip::state::State;
+use counts::part::Lookup;
+use counts::part::Part;
+use pins::record::Pins;
+
+// Taken with its packed answer, or refused with its number.
+pub enum Outcome {
+    Taken(u32),
+    Refused(u8),
+}
+
+pub struct Sampled {
+    pub outcome: Outcome,
+    pub state: State,
+}
+
+pub fn sample(part: u32, record: u32, state: State, memory: &mut [u32]) -> Sampled
+    ensures { λ r. ⌜ Samples part «record» state (now (memory .entry)) r (now (memory .exit)) ⌝ }
+{
+    let looked_up = counts::part::look_up(part);
+    let Lookup::Known(known) = looked_up else {
+        return turn_away(1, state);
+    };
+    if is_depth(known, memory.len()) {
+        if chip::state::passes_test(known, state) {
+            step(known, record, state, memory)
+        } else {
+            turn_away(3, state)
+        }
+    } else {
+        turn_away(2, state)
+    }
+}
+
+// One record once part, memory and state have passed their tests. The run shares it.
+pub(crate) fn step(part: Part, record: u32, state: State, memory: &mut [u32]) -> Sampled
+    requires { ⌜ widths part state ≡ true ⌝ }
+    ensures { λ r. ⌜ Steps part «record» state (now (memory .entry)) r (now (memory .exit)) ⌝ }
+{
+    let p = pins::record::decode(record);
+    let number = refuse_record(part, record, p, state);
+    if number == 0 {
+        take(part, p, state, memory)
+    } else {
+        turn_away(number, state)
+    }
+}
+
+pub(crate) fn is_depth(part: Part, words: usize) -> bool
+    ensures { λ r. ⌜ r ≡ isDepth part words ⌝ }
+{
+    words == wide(counts::part::depth(part))
+}
+
+fn refuse_record(part: Part, record: u32, p: Pins, state: State) -> u8
+    ensures { λ r. ⌜ r ≡ refusedOn part «record» p state ⌝ }
+{
+    let spare = (record >> 18) % 2 == 1;
+    if spare {
+        4
+    } else {
+        chip::refuse::refusal(part, p, state)
+    }
+}
+
+fn take(part: Part, p: Pins, state: State, memory: &mut [u32]) -> Sampled
+    requires { ⌜ widths part state ≡ true ⌝ }
+    ensures { λ r. ⌜ Gives (taken part p state (now (memory .entry))) r (now (memory .exit)) ⌝ }
+{
+    let place = counts::round::read_place(part, state.read.count);
+    let fetched = super::memory::fetch(memory, wide(place));
+    let advanced = chip::advance::advance(part, p, fetched, state);
+    let store = advanced.store;
+    super::memory::put_away(store, memory);
+    let next = advanced.state;
+    Sampled {
+        outcome: Outcome::Taken(advanced.answer),
+        state: next,
+    }
+}
+
+fn turn_away(number: u8, state: State) -> Sampled
+    ensures { λ r. ⌜ r ≡ record { outcome = Outcome.Refused number; state = state } ⌝ }
+{
+    Sampled {
+        outcome: Outcome::Refused(number),
+        state: state,
+    }
+}
+
+fn wide(x: u16) -> usize
+    ensures { λ r. ⌜ r ≡ x ⌝ }
+{
+    x as usize
+}
