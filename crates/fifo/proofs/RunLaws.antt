@@ -58,7 +58,7 @@ pub record Going (lenient : Bool) (part : Part) (bytes : List ℕ) (start g : Pr
   pub words : length (g .memory) ≡ length (start .memory)
   pub room : length (g .answers) ≡ length (start .answers)
   pub marked : length (g .marks) ≡ length (start .marks)
-  pub same : folded lenient part (atEnd bytes) (recordsFrom bytes index (wholeRecords bytes - index)) index g ≡ worked lenient part bytes start
+  pub same : folded lenient (stepped part) (atEnd bytes) (recordsFrom bytes index (wholeRecords bytes - index)) index g ≡ worked lenient part bytes start
 
 pub going : (lenient : Bool) (part : Part) (bytes : List ℕ) (start : Progress) → widths part (start .state) ≡ true → start .accepted ≡ 0
     → Going lenient part bytes start start 0

@@ -1,3 +1,5 @@
 pub mod Sample
 pub mod SampleLaws
 pub mod Run
+pub mod FoldLaws
+pub mod Unique

@@ -67,13 +67,17 @@ pub record Ended : Type 0 where
 abbrev pub ended : ℕ → ℕ → Progress → Ended
 ended number index g = record { refusal = number; index = index; progress = g }
 
+-- what works one record
+abbrev pub Stepping : Type 0
+Stepping = ℕ → State → List ℕ → After
+
 -- the records from an index on; `last` is the number that the end of the trace gives
-unfoldable pub folded : Bool → Part → ℕ → List ℕ → ℕ → Progress → Ended
-folded lenient part last [] index g = ended last index g
-folded lenient part last (x ∷ xs) index g =
-    cond (stops lenient (stepped part x (g .state) (g .memory) .sampled .outcome))
-    (ended (numberOf (stepped part x (g .state) (g .memory) .sampled .outcome)) index g)
-    (folded lenient part last xs (index + 1) (noted lenient index (stepped part x (g .state) (g .memory)) g))
+unfoldable pub folded : Bool → Stepping → ℕ → List ℕ → ℕ → Progress → Ended
+folded lenient step last [] index g = ended last index g
+folded lenient step last (x ∷ xs) index g =
+    cond (stops lenient (step x (g .state) (g .memory) .sampled .outcome))
+    (ended (numberOf (step x (g .state) (g .memory) .sampled .outcome)) index g)
+    (folded lenient step last xs (index + 1) (noted lenient index (step x (g .state) (g .memory)) g))
 
 -- what the end of a trace gives: 4 where bytes are left over
 abbrev pub atEnd : List ℕ → ℕ
@@ -81,7 +85,7 @@ atEnd bytes = trace.numberOf (recordAt bytes (wholeRecords bytes))
 
 -- every record of a trace, and then its end
 unfoldable pub worked : Bool → Part → List ℕ → Progress → Ended
-worked lenient part bytes g = folded lenient part (atEnd bytes) (recordsFrom bytes 0 (wholeRecords bytes)) 0 g
+worked lenient part bytes g = folded lenient (stepped part) (atEnd bytes) (recordsFrom bytes 0 (wholeRecords bytes)) 0 g
 
 -- room for three bytes of answer and, in a lenient run, a mark for each whole record
 abbrev pub roomy : Bool → ℕ → ℕ → ℕ → Bool

@@ -11,12 +11,14 @@ use Rattle.chip.specs.declared.advance.Store.{Store}
 use Rattle.chip.specs.declared.advance.Store.the-variants.{Keep, Put}
 use Rattle.chip.specs.declared.state.State.{State}
 use Rattle.chip.specs.Advance.{advanced, stored}
-use Rattle.chip.specs.State.{widths}
+use Rattle.chip.specs.State.{passes, widths}
 use Rattle.chip.specs.Widths.{widths-stay}
+use Rattle.counts.specs.declared.part.Lookup.the-variants.{Known}
 use Rattle.counts.specs.declared.part.Part.{Part}
+use Rattle.counts.specs.Part.{partOf}
 use Rattle.pins.specs.Record.{pinsOf}
 use Rattle.fifo.specs.declared.sample.Outcome.the-variants.{Refused}
-use Rattle.fifo.specs.Sample.{fetchedFor, recordRefusal, stepped, taken, took, turnedAway}
+use Rattle.fifo.specs.Sample.{fetchedFor, isDepth, recordRefusal, sampled, stepped, taken, took, turnedAway}
 
 refused-by : (takes : Bool) (a : Advanced) (number found : ℕ) (s : State) (memory : List ℕ)
     → cond takes (took a memory) (turnedAway number s memory) .sampled .outcome ≡ Refused found
@@ -54,3 +56,9 @@ module _ (part : Part) (x : ℕ) (s : State) (memory : List ℕ) where
   pub step-length : length (stepped part x s memory .memory) ≡ length memory
   unfolding stepped taken
   step-length = length-by (eqb (recordRefusal part x s) 0) (advanced part (pinsOf x) (fetchedFor part s memory) s) (recordRefusal part x s) s memory
+
+-- a sample for a part, a memory and a state that pass 1 to 3 is the step
+pub sample-is-step : (number x : ℕ) (s : State) (memory : List ℕ) (part : Part) → partOf number ≡ Known part → isDepth part (length memory) ≡ true
+    → passes part s ≡ true → sampled number x s memory ≡ stepped part x s memory
+unfolding sampled
+sample-is-step number x s memory part k d t = simp (k, d, t)

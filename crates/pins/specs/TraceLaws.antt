@@ -1,15 +1,17 @@
 -- Trace sample, on bytes: which index has a record, and the records one after the other.
-use Prim.Native.Nat.{ℕ, suc, _+_, _*_, _-_, _%_, _≤_, _<_}
+use Prim.Native.Nat.{ℕ, zero, suc, _+_, _*_, _-_, _%_, _≤_, _<_}
 use mathlib.Core.Bool.{Bool, true, false, cond}
-use mathlib.Core.List.{List, _∷_}
+use mathlib.Core.List.{List, _∷_, _++_}
 use mathlib.Core.Path.{_≡_, refl, sym, ap, _∙_}
 use lib.Dec.{eqb, ltb}
-use lib.ListN.{length}
-use borrow.Author.Tests.{ltb-true, ltb-false}
+use lib.ListN.{length, List·getD-append}
+use lib.Seq.{getD-append-add}
+use borrow.Author.Tests.{le-ltb, ltb-true, ltb-false}
+use native.Mathlib.Nat.{add-zero, suc-add, zero-add}
 use native.Mathlib.Omega.{arith}
 use Rattle.pins.specs.declared.trace.Record.{Record}
 use Rattle.pins.specs.declared.trace.Record.the-variants.{Whole, Leftover, End}
-use Rattle.pins.specs.Trace.{recordAt, recordsFrom, wholeRecords, wordAt}
+use Rattle.pins.specs.Trace.{Reads, numberOf, recordAt, recordsFrom, wholeRecords, wordAt}
 
 abbrev pub isWhole : Record → Bool
 isWhole (Whole word) = true
@@ -48,3 +50,69 @@ module _ (trace : List ℕ) (index : ℕ) {word : ℕ} (e : recordAt trace index
 
 pub none-whole : (trace : List ℕ) (index : ℕ) → isWhole (recordAt trace index) ≡ false → wholeRecords trace ≤ index
 none-whole trace index e = ltb-false index (wholeRecords trace) (sym (whole-told trace index) ∙ e)
+
+end-by : (clean : Bool) → numberOf (cond clean End Leftover) ≡ cond clean 0 4
+end-by true = refl
+end-by false = refl
+
+-- past the whole records only the bytes left over count
+pub end-told : (trace : List ℕ) → numberOf (recordAt trace (wholeRecords trace)) ≡ cond (eqb (length trace % 4) 0) 0 4
+unfolding recordAt
+end-told trace = rw (le-ltb (wholeRecords trace) (wholeRecords trace) (omega arith)) (end-by (eqb (length trace % 4) 0))
+
+pub records-length : (trace : List ℕ) (index many : ℕ) → length (recordsFrom trace index many) ≡ many
+unfolding recordsFrom
+records-length trace index zero = refl
+records-length trace index (suc many) = ap suc (records-length trace (index + 1) many)
+
+records-join : (trace : List ℕ) (index many more : ℕ)
+    → recordsFrom trace index (many + more) ≡ recordsFrom trace index many ++ recordsFrom trace (index + many) more
+unfolding recordsFrom
+records-join trace index zero more = rw (zero-add, add-zero) refl
+records-join trace index (suc many) more =
+    let on : index + suc many ≡ index + 1 + many = omega arith in
+    rw (suc-add, on) (ap (λ (l : List ℕ). wordAt trace (index * 4) ∷ l) (records-join trace (index + 1) many more))
+
+-- a trace in two parts, the first of whole records
+module _ (u v : List ℕ) (whole : ℕ) (e : length u ≡ whole * 4) where
+  word-first : (index : ℕ) → index < whole → wordAt (u ++ v) (index * 4) ≡ wordAt u (index * 4)
+  unfolding wordAt
+  word-first index h =
+      rw (
+        List·getD-append u v 0 (index * 4) (omega arith),
+        List·getD-append u v 0 (index * 4 + 1) (omega arith),
+        List·getD-append u v 0 (index * 4 + 2) (omega arith),
+        List·getD-append u v 0 (index * 4 + 3) (omega arith),
+      )
+
+  word-second : (index : ℕ) → wordAt (u ++ v) ((whole + index) * 4) ≡ wordAt v (index * 4)
+  unfolding wordAt
+  word-second index =
+      let zeroth : (whole + index) * 4 ≡ length u + index * 4 = omega arith in
+      let first : (whole + index) * 4 + 1 ≡ length u + (index * 4 + 1) = omega arith in
+      let second : (whole + index) * 4 + 2 ≡ length u + (index * 4 + 2) = omega arith in
+      let third : (whole + index) * 4 + 3 ≡ length u + (index * 4 + 3) = omega arith in
+      rw (third, second, first, zeroth) (simp getD-append-add)
+
+  records-first : (index many : ℕ) → index + many ≡ whole → recordsFrom (u ++ v) index many ≡ recordsFrom u index many
+  unfolding recordsFrom
+  records-first index zero h = refl
+  records-first index (suc many) h =
+      rw (word-first index (omega arith)) (ap (λ (l : List ℕ). wordAt u (index * 4) ∷ l) (records-first (index + 1) many (omega arith)))
+
+  records-second : (index many : ℕ) → recordsFrom (u ++ v) (whole + index) many ≡ recordsFrom v index many
+  unfolding recordsFrom
+  records-second index zero = refl
+  records-second index (suc many) =
+      let on : whole + index + 1 ≡ whole + (index + 1) = omega arith in
+      rw (word-second index, on) (ap (λ (l : List ℕ). wordAt v (index * 4) ∷ l) (records-second (index + 1) many))
+
+  pub records-split : (many : ℕ) → recordsFrom (u ++ v) 0 (whole + many) ≡ recordsFrom u 0 whole ++ recordsFrom v 0 many
+  records-split many =
+      let start : 0 + whole ≡ whole + 0 = omega arith in
+      records-join (u ++ v) 0 whole many
+      ∙ rw (records-first 0 whole (omega arith), start) (ap (λ (l : List ℕ). recordsFrom u 0 whole ++ l) (records-second 0 many))
+
+-- What counts as an answer proved
+pub record-unique : (trace : List ℕ) (index : ℕ) (a b : Record) → Reads trace index a → Reads trace index b → a ≡ b
+record-unique trace index a b e f = e ∙ sym f
