@@ -1,0 +1,21 @@
+-- What counts as a place or a record proved: two outcomes that meet an operation's promise are the same.
+use Prim.Native.Nat.{ℕ}
+use mathlib.Core.List.{List}
+use mathlib.Core.Path.{_≡_, sym, _∙_}
+use denote.Ref.{RefT}
+use Rattle.pins.specs.Trace.{Reads}
+use Rattle.pins.specs.declared.trace.Record.{Record}
+use Rattle.reader.specs.declared.Reader.{Reader}
+use Rattle.reader.specs.Reader.{Finds, Moves, Opens}
+
+pub open-unique : (trace : RefT (List ℕ)) (a b : Reader) → Opens trace a → Opens trace b → a ≡ b
+open-unique trace a b e f = e ∙ sym f
+
+pub at-unique : (reader : Reader) (index : ℕ) (a b : Reader) → Moves reader index a → Moves reader index b → a ≡ b
+at-unique reader index a b e f = e ∙ sym f
+
+pub read-unique : (reader : Reader) (a b : Record) → Finds reader a → Finds reader b → a ≡ b
+read-unique reader a b e f = e ∙ sym f
+
+pub record-of-unique : (trace : List ℕ) (index : ℕ) (a b : Record) → Reads trace index a → Reads trace index b → a ≡ b
+record-of-unique trace index a b e f = e ∙ sym f
