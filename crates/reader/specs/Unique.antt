@@ -1,9 +1,8 @@
--- What counts as a place or a record proved: two outcomes that meet an operation's promise are the same.
+-- What counts as an answer proved: two outcomes that meet a promise are the same. `record_of` has the promise of `record_at`.
 use Prim.Native.Nat.{ℕ}
 use mathlib.Core.List.{List}
 use mathlib.Core.Path.{_≡_, sym, _∙_}
 use denote.Ref.{RefT}
-use Rattle.pins.specs.Trace.{Reads}
 use Rattle.pins.specs.declared.trace.Record.{Record}
 use Rattle.reader.specs.declared.Reader.{Reader}
 use Rattle.reader.specs.Reader.{Finds, Moves, Opens}
@@ -16,6 +15,3 @@ at-unique reader index a b e f = e ∙ sym f
 
 pub read-unique : (reader : Reader) (a b : Record) → Finds reader a → Finds reader b → a ≡ b
 read-unique reader a b e f = e ∙ sym f
-
-pub record-of-unique : (trace : List ℕ) (index : ℕ) (a b : Record) → Reads trace index a → Reads trace index b → a ≡ b
-record-of-unique trace index a b e f = e ∙ sym f
