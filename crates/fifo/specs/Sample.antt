@@ -79,5 +79,6 @@ pub record Gives (expected : After) (r : Sampled) (memory : List ℕ) : Type 0 w
 abbrev pub Steps : Part → ℕ → State → List ℕ → Sampled → List ℕ → Type 0
 Steps part x s memory r after = Gives (stepped part x s memory) r after
 
-abbrev pub Samples : ℕ → ℕ → State → List ℕ → Sampled → List ℕ → Type 0
-Samples number x s memory r after = Gives (sampled number x s memory) r after
+pub record Samples (number x : ℕ) (s : State) (memory : List ℕ) (r : Sampled) (after : List ℕ) : Type 0 where
+  pub result : r ≡ sampled number x s memory .sampled
+  pub words : after ≡ sampled number x s memory .memory
