@@ -13,7 +13,7 @@ use Rattle.fifo.proofs.sample.sample.Tie as tie
 
 promised : {number x : ℕ} {s : State} {memory after : List ℕ} {r : Sampled} {b : After} → sampled number x s memory ≡ b → Gives b r after
     → Samples number x s memory r after
-promised e g = let h = gives-by e g in record { result = h .result; words = h .words }
+promised e g = let h = gives-by e g in search needs
 
 returns : tie.Need-returns
 returns c =
