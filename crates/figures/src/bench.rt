@@ -112,25 +112,20 @@ pub(crate) fn settle(bench: Bench, memory: &mut [u32]) -> Bench {
     run_write_clock(read, 2, memory)
 }
 
-// The words after the given number, each carrying its own. Numbers 65,536 apart look the same.
-pub(crate) fn write_words(bench: Bench, after: u32, words: u32, memory: &mut [u32]) -> Bench {
+// Each word carries its number, from 1 on.
+pub(crate) fn write_words(bench: Bench, words: u32, memory: &mut [u32]) -> Bench {
     let mut now = bench;
     let mut done: u32 = 0;
     while done < words {
         done += 1;
-        now = write_word(now, numbered(after, done), memory);
+        now = write_word(now, done, memory);
     }
     now
 }
 
-pub(crate) fn numbered(after: u32, word: u32) -> u32 {
-    std::num::wrapping_add_u32(after, word) % 65536
-}
-
-// The words 1 to the given number written after a reset.
 pub(crate) fn fill(part: u32, mode: Mode, words: u32, memory: &mut [u32]) -> Bench {
     let empty = reset(part, mode, memory);
-    let written = write_words(empty, 0, words, memory);
+    let written = write_words(empty, words, memory);
     settle(written, memory)
 }
 

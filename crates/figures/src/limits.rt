@@ -32,7 +32,7 @@ fn print_fill(part: u32, mode: Mode, name: &[u8], words: u32, memory: &mut [u32]
 
 pub(crate) fn print_full(part: u32, memory: &mut [u32]) {
     let empty = bench::reset(part, Mode::Standard, memory);
-    let full = bench::write_words(empty, 0, bench::depth(part), memory);
+    let full = bench::write_words(empty, bench::depth(part), memory);
     print::print_case(full, b"full-rclk-still");
     let seen = bench::run_read_clock(full, 1000, memory);
     print::print_case(seen, b"full-rclk-running");

@@ -64,9 +64,9 @@ fn print_next(refused: Bench, number: u32, memory: &mut [u32]) {
 }
 
 fn print_wrong_part(waiting: Bench, memory: &mut [u32]) {
-    let refused = bench::set_pins(with_part(waiting, 256), rising_read(), memory);
+    let refused = bench::set_pins(hand_in(waiting, 256, waiting.state), rising_read(), memory);
     print::print_numbered(refused, b"refusal", 1);
-    print_next(with_part(refused, waiting.part), 1, memory);
+    print_next(hand_in(refused, waiting.part, refused.state), 1, memory);
 }
 
 fn print_wrong_memory(waiting: Bench, memory: &mut [u32]) {
@@ -78,9 +78,11 @@ fn print_wrong_memory(waiting: Bench, memory: &mut [u32]) {
 
 // The register is put right again before the next sample.
 fn print_wide_register(waiting: Bench, memory: &mut [u32]) {
-    let refused = bench::set_pins(with_register(waiting, 262144), rising_read(), memory);
+    let wide = hand_in(waiting, waiting.part, with_output(waiting.state, 1 << 18));
+    let refused = bench::set_pins(wide, rising_read(), memory);
     print::print_numbered(refused, b"refusal", 3);
-    print_next(with_register(refused, 0), 3, memory);
+    let mended = hand_in(refused, refused.part, with_output(refused.state, 0));
+    print_next(mended, 3, memory);
 }
 
 fn print_bit_18(waiting: Bench, memory: &mut [u32]) {
@@ -126,7 +128,7 @@ fn two_enables() -> Pins {
     record::with_rclk_high(pins)
 }
 
-// Under parallel loading.
+// Asked of a part under parallel loading.
 fn serial_bit() -> Pins {
     let mut pins = record::idle();
     pins.ld = false;
@@ -140,26 +142,14 @@ fn retransmit_and_read() -> Pins {
     record::with_rclk_high(pins)
 }
 
-fn with_part(bench: Bench, part: u32) -> Bench {
+// The caller may hand in any part number and any state.
+fn hand_in(bench: Bench, part: u32, state: State) -> Bench {
     let mode = bench.mode;
-    let state = bench.state;
     let outcome = bench.outcome;
     Bench {
         part: part,
         mode: mode,
         state: state,
-        outcome: outcome,
-    }
-}
-
-fn with_register(bench: Bench, output: u32) -> Bench {
-    let mode = bench.mode;
-    let state = bench.state;
-    let outcome = bench.outcome;
-    Bench {
-        part: bench.part,
-        mode: mode,
-        state: with_output(state, output),
         outcome: outcome,
     }
 }

@@ -25,17 +25,22 @@ fn print_more(late: Bench, memory: &mut [u32]) {
     print::print_case(bench::retransmit(more, memory), b"retransmit-past-width");
 }
 
-// The fill is the same after each turn.
+// A word written and a word read in each turn, so that the fill is the same after it.
 fn take_turns(filled: Bench, after: u32, turns: u32, memory: &mut [u32]) -> Bench {
     let mut now = filled;
     let mut done: u32 = 0;
     while done < turns {
         done += 1;
-        now = take_turn(now, bench::numbered(after, done), memory);
+        now = take_turn(now, numbered(after, done), memory);
     }
     bench::settle(now, memory)
 }
 
 fn take_turn(filled: Bench, word: u32, memory: &mut [u32]) -> Bench {
     bench::read_word(bench::write_word(filled, word, memory), memory)
+}
+
+// The words go on carrying their numbers, and two that are a width apart look the same.
+fn numbered(after: u32, done: u32) -> u32 {
+    std::num::wrapping_add_u32(after, done) % WIDTH
 }

@@ -6,19 +6,16 @@ use Rattle.figures.proofs.bench.write_words.Statement.{statement}
 use Rattle.figures.proofs.bench.write_words.Tie as tie
 
 abbrev Inv-loop : tie.InvT-loop
-Inv-loop after words memory₀ now₀ done₀ memory now done = (length memory ≡ length memory₀) × (done ≤ words)
+Inv-loop words memory₀ now₀ done₀ memory now done = (length memory ≡ length memory₀) × (done ≤ words)
 
 abbrev μ-loop : tie.MeasureT-loop
-μ-loop after words memory₀ now₀ done₀ memory now done = words - done
+μ-loop words memory₀ now₀ done₀ memory now done = words - done
 
 loop-holds : tie.Need-loop-holds Inv-loop μ-loop
 loop-holds c = search needs
 
 add-done : tie.Need-add-done Inv-loop μ-loop
 add-done c = search needs
-
-numbered-requires : tie.Need-numbered-requires Inv-loop μ-loop
-numbered-requires c κs = search needs
 
 write-word-requires : tie.Need-write-word-requires Inv-loop μ-loop
 write-word-requires c κs = search needs
@@ -43,7 +40,6 @@ write-words-spec =
     μ-loop
     loop-holds
     add-done
-    numbered-requires
     write-word-requires
     loop-less
     loop-again
