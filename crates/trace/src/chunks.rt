@@ -4,12 +4,12 @@ ghost use lib.ListN.{length};
 use chip::state::State;
 use fifo::run::Ran;
 
-// Whole records, so that none lies across two chunks.
-const CHUNK: usize = 16384;
-
 const RECORDS: usize = 4096;
 
-// The records so far, over all chunks: how many there were, and how many of them were accepted.
+// In bytes: whole records, so that none lies across two chunks.
+const CHUNK: usize = RECORDS * 4;
+
+// What is carried from chunk to chunk. `records` counts those with a line, `accepted` those with an answer.
 struct Progress {
     state: State,
     records: u64,
@@ -68,6 +68,7 @@ fn work_chunk(
         &mut marks,
     );
     let printed = print_records(room, before.records, &answers, &marks, ran.index);
+    // A chunk that is not full is the last; and there is no use in going on where nobody takes the lines.
     move_on(before, ran, (got < CHUNK) | !printed)
 }
 
@@ -87,13 +88,15 @@ fn run(
     }
 }
 
-// Where nobody takes the lines any more, there is no use in going on.
 fn move_on(before: Progress, ran: Ran, last: bool) -> Progress {
     let after = ran.state;
     Progress {
         state: after,
-        records: std::num::wrapping_add_u64(before.records, wide(ran.index)),
-        accepted: std::num::wrapping_add_u64(before.accepted, wide(ran.accepted)),
+        records: std::num::wrapping_add_u64(before.records, super::widths::from_size(ran.index)),
+        accepted: std::num::wrapping_add_u64(
+            before.accepted,
+            super::widths::from_size(ran.accepted),
+        ),
         refusal: ran.refusal,
         over: last | (ran.refusal != 0),
     }
@@ -123,8 +126,4 @@ fn write_first(room: &[u8], count: usize) -> bool
     requires { ⌜ count ≤ length (now room) ⌝ }
 {
     io::write_all(libc::STDOUT_FILENO, &room[..count])
-}
-
-fn wide(x: usize) -> u64 {
-    x as u64
 }

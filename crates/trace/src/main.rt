@@ -1,49 +1,24 @@
 // The trace program: a part number and records on standard input, a line for each record on standard output.
-ghost use Prim.Native.Nat.{_<_, _≤_};
+ghost use Prim.Native.Nat.{_≤_};
+ghost use Rattle.trace.specs.Header.{numberOf};
+ghost use mathlib.Core.Path.{_≡_};
 
 mod chunks;
 mod lines;
-mod words;
+mod manner;
+mod widths;
 
 use counts::part::Lookup;
 use counts::part::Part;
-
-// How the user wants a refused record to be met: as the end, or as one line among the others.
-enum Manner {
-    Strict,
-    Lenient,
-    Unknown,
-}
+use manner::Manner;
 
 fn main() {
-    let manner = asked_manner();
-    match manner {
+    let asked = manner::asked();
+    match asked {
         Manner::Strict => trace(false),
         Manner::Lenient => trace(true),
-        Manner::Unknown => complain(),
+        Manner::Unknown => manner::complain(),
     }
-}
-
-fn asked_manner() -> Manner {
-    let count = os::arg_count();
-    if count < 2 {
-        return Manner::Strict;
-    }
-    let mut word = [0u8; 7];
-    // A longer argument has no length here: `arg` answers 0 where it does not fit.
-    let length = os::arg(1, &mut word);
-    if (count == 2) & words::is_same(&word[..length], b"lenient") {
-        Manner::Lenient
-    } else {
-        Manner::Unknown
-    }
-}
-
-fn complain() {
-    io::write_all(
-        libc::STDERR_FILENO,
-        b"trace: the only argument is lenient; the trace comes on standard input\n",
-    );
 }
 
 fn trace(lenient: bool) {
@@ -55,12 +30,13 @@ fn trace(lenient: bool) {
     chunks::work_all(lenient, number, &mut memory[..depth]);
 }
 
-// A header that is cut short names no part, and neither does 0.
-fn part_number(header: &[u8]) -> u32 {
+fn part_number(header: &[u8]) -> u32
+    ensures { λ r. ⌜ r ≡ numberOf (now (header .entry)) ⌝ }
+{
     if header.len() < 2 {
         0
     } else {
-        wide(header[0]) * 256 + wide(header[1])
+        widths::from_byte(header[0]) * 256 + widths::from_byte(header[1])
     }
 }
 
@@ -79,10 +55,4 @@ fn depth(part: Part) -> usize
     ensures { λ r. ⌜ r ≤ 16384 ⌝ }
 {
     counts::part::depth(part) as usize
-}
-
-fn wide(byte: u8) -> u32
-    ensures { λ r. ⌜ r < 256 ⌝ }
-{
-    byte as u32
 }

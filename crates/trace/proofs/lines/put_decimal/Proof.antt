@@ -2,7 +2,10 @@ use borrow.Author.Needs.{needs}
 use native.Mathlib.Nat.{lt-of-not-le, pow-le-pow-right}
 use native.Mathlib.Omega.{arith}
 use Prim.Native.Nat.{ℕ, _-_, _^_, _<_, _≤_}
+use denote.Ref.{now}
+use mathlib.Core.Path.{_∙_, ap}
 use Rattle.io.specs.Digits.{Fewest}
+use Rattle.trace.specs.Lines.{putText}
 use Rattle.trace.proofs.lines.put_decimal.Statement.{statement}
 use Rattle.trace.proofs.lines.put_decimal.Tie as tie
 
@@ -23,11 +26,19 @@ returns : tie.Need-returns
 returns c =
     let s = c .before .before .before .before .before .before .before .before in
     let d = c .before .before .before .before .before .decimal in
-    omega (
-      arith,
-      d .ensures .0,
-      c .before .before .put-text .ensures,
-      at-most-twenty (s .args .value) (d .result) (s .fits .value .fits) (d .ensures .1 .0),
+    let t = c .before .before .put-text in (
+      omega (
+        arith,
+        d .ensures .0,
+        t .ensures .0,
+        at-most-twenty (s .args .value) (d .result) (s .fits .value .fits) (d .ensures .1 .0),
+      ),
+      record {
+        count = d .result;
+        fewest = d .ensures .1 .0;
+        after = omega (arith, d .ensures .0, t .ensures .0);
+        written = t .ensures .1 ∙ ap (putText (now (s .args .room)) (s .args .at)) (d .ensures .1 .1);
+      },
     )
 
 pub put-decimal-spec : {M : Type 1} → statement M

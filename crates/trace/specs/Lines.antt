@@ -1,0 +1,37 @@
+-- Text, put into a room at a place.
+use Prim.Native.Nat.{ℕ, _+_, _/_, _%_}
+use mathlib.Core.Bool.{cond}
+use mathlib.Core.List.{List}
+use mathlib.Core.Path.{_≡_}
+use lib.Dec.{ltb}
+use lib.ListN.{getD, length, set}
+use lib.Seq.{paste}
+use Rattle.io.specs.Digits.{Fewest, digits}
+
+-- the ASCII code of a digit below 16, in capitals
+abbrev pub hexDigit : ℕ → ℕ
+hexDigit value = cond (ltb value 10) (48 + value) (55 + value)
+
+unfoldable pub putHex : List ℕ → ℕ → ℕ → List ℕ
+putHex room at byte = set (set room at (hexDigit (byte / 16))) (at + 1) (hexDigit (byte % 16))
+
+-- a blank, the three bytes of an answer from a place on, the end of the line
+unfoldable pub putAnswer : List ℕ → ℕ → List ℕ → ℕ → List ℕ
+putAnswer room at answers from =
+    set
+    (putHex
+    (putHex (putHex (set room at 32) (at + 1) (getD answers from 0)) (at + 3) (getD answers (from + 1) 0))
+    (at + 5)
+    (getD answers (from + 2) 0))
+    (at + 7)
+    10
+
+abbrev pub putText : List ℕ → ℕ → List ℕ → List ℕ
+putText room at text = paste room at text (length text)
+
+-- the decimal digits of a value, and no more of them than it takes, up to the place `end`
+pub record PutsDecimal (room : List ℕ) (at value : ℕ) (room′ : List ℕ) (end : ℕ) : Type 0 where
+  pub count : ℕ
+  pub fewest : Fewest 10 1 value count
+  pub after : end ≡ at + count
+  pub written : room′ ≡ putText room at (digits 10 count value)
