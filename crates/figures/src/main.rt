@@ -7,6 +7,7 @@ mod print;
 mod record;
 mod refusals;
 mod retransmits;
+mod runs;
 mod width;
 
 use record::Mode;
@@ -25,6 +26,7 @@ fn print_part(part: u32, memory: &mut [u32]) {
     print_mode(part, Mode::Fwft, memory);
     limits::print_full(part, memory);
     refusals::print_refusals(part, memory);
+    runs::print_runs(part, memory);
 }
 
 fn print_mode(part: u32, mode: Mode, memory: &mut [u32]) {

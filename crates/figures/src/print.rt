@@ -1,6 +1,7 @@
 // A figure's line: part, mode and name of the case, a blank, and the outcome.
 use super::bench::Bench;
 use super::record::Mode;
+use fifo::run::Ran;
 use fifo::sample::Outcome;
 
 pub(crate) fn print_case(bench: Bench, name: &[u8]) {
@@ -17,6 +18,20 @@ pub(crate) fn print_numbered(bench: Bench, name: &[u8], number: u32) {
     print_text(b"-");
     print_number(number);
     print_outcome(outcome);
+}
+
+// The records accepted, the index at which the run ended, and the refusal.
+pub(crate) fn print_run(part: u32, manner: &[u8], name: &[u8], ran: Ran) {
+    print_number(part);
+    print_text(manner);
+    print_text(name);
+    print_text(b" accepted ");
+    io::print_decimal(1, ran.accepted as u64);
+    print_text(b" ended at ");
+    io::print_decimal(1, ran.index as u64);
+    print_text(b" with ");
+    print_number(ran.refusal as u32);
+    print_text(b"\n");
 }
 
 fn print_start(part: u32, mode: Mode, name: &[u8]) {
