@@ -1,7 +1,8 @@
--- The C call: what stands when a record is taken.
+-- The C call: what stands when a record is taken, and that a refusal moves nothing.
 use Prim.Native.Nat.{ℕ, _+_, _*_, _<_}
 use mathlib.Core.Bool.{Bool, true, false, cond, _&&_, and-eq-true-iff}
 use mathlib.Core.List.{List}
+use mathlib.Core.Logic.{_≢_}
 use mathlib.Core.Path.{_≡_, refl, subst}
 use lib.Dec.{eqb}
 use lib.ListN.{length}
@@ -24,7 +25,7 @@ use Rattle.fifo_c.specs.declared.state.Spelt.{Spelt}
 use Rattle.fifo_c.specs.declared.state.Spelt.the-variants.{As, NoState}
 use Rattle.fifo_c.specs.declared.verdict.Verdict.{Verdict}
 use Rattle.fifo_c.specs.declared.verdict.Verdict.the-variants.{Take, Refuse}
-use Rattle.fifo_c.specs.Call.{Within, answerBytes, judged, memoryBytes, onRecord, onSpelt, roomy, wordSize}
+use Rattle.fifo_c.specs.Call.{Within, answerBytes, byVerdict, called, judged, memoryBytes, onRecord, onSpelt, roomy, taken, turnedAway, wordSize}
 use Rattle.fifo_c.specs.Spelling.{spelt, stateBytes}
 
 -- the three lengths that are not refused 2
@@ -103,3 +104,15 @@ all-cleared number bytes state memory answer =
 pub cleared : (number : ℕ) (bytes state : List ℕ) (memory answer : ℕ) (part : Part) (x : ℕ) (s : State)
     → judged number bytes state memory answer ≡ Take part x s → Cleared number bytes state memory answer part x s
 cleared number bytes state memory answer part x s e = subst (Clears number bytes state memory answer) e (all-cleared number bytes state memory answer)
+
+still-by : (v : Verdict) (state memory answer : List ℕ) → byVerdict v state memory answer .code ≢ 0
+    → byVerdict v state memory answer ≡ turnedAway (byVerdict v state memory answer .code) state memory answer
+unfolding taken
+still-by (Take part x s) state memory answer n = absurd (n refl)
+still-by (Refuse number) state memory answer n = refl
+
+-- whatever was handed in
+pub refused-still : (number : ℕ) (bytes state memory answer : List ℕ) → called number bytes state memory answer .code ≢ 0
+    → called number bytes state memory answer ≡ turnedAway (called number bytes state memory answer .code) state memory answer
+unfolding called
+refused-still number bytes state memory answer = still-by (judged number bytes state (length memory) (length answer)) state memory answer
