@@ -1,0 +1,120 @@
+//! Makes the records of a trace one by one, with an eye on the model that takes them.
+
+use crate::model::{Mode, Model};
+use crate::pins::Pins;
+use crate::random::Random;
+use crate::refusals::refusal;
+use crate::scenes::{calm, clocks, places_held, places_written, spoil, Pace, Scene, PACES};
+
+#[derive(Clone, Copy, Debug)]
+pub struct Plan {
+    pub mode: Mode,
+    /// One in so many samples is meant to be refused; never, where it is 0.
+    pub spoiled: u64,
+    /// Whether the trace is long enough to fill the part.
+    pub far: bool,
+    /// Words since the reset to go to at once, for a trace that is about their number.
+    pub written: u64,
+}
+
+pub struct Generator {
+    random: Random,
+    plan: Plan,
+    scene: Scene,
+    pace: Pace,
+    missed: u64,
+    left: u64,
+}
+
+impl Generator {
+    pub fn new(plan: Plan, random: Random) -> Generator {
+        let scene = Scene::Verge { written: plan.written };
+        Generator { random, plan, scene, pace: Pace::Together, missed: 4, left: 200 }
+    }
+
+    pub fn next(&mut self, model: &Model) -> u32 {
+        if !model.started() && !self.random.one_in(self.plan.spoiled.max(1) + 1) {
+            return self.master_reset(model).record();
+        }
+        if self.plan.spoiled > 0 {
+            return self.proposal(model).record();
+        }
+        let legal = (0..8).map(|_| self.proposal(model)).find(|&pins| refusal(model, pins).is_none());
+        legal.unwrap_or_else(|| if model.started() { calm(model) } else { self.master_reset(model) }).record()
+    }
+
+    fn master_reset(&mut self, model: &Model) -> Pins {
+        let fwft_si = self.plan.mode == Mode::FallThrough;
+        let (ld, wclk, rclk) = (self.random.flip(), self.random.flip(), self.random.flip());
+        Pins { mrs: false, prs: self.random.flip(), fwft_si, ld, wclk, rclk, ..calm(model) }
+    }
+
+    fn proposal(&mut self, model: &Model) -> Pins {
+        let arrived = self.scene.arrived(model);
+        if arrived {
+            self.turn_over(model);
+        }
+        let mut pins = self.idle(model, arrived);
+        self.scene.play(&mut pins, model, &mut self.random);
+        if self.plan.spoiled > 0 && self.random.one_in(self.plan.spoiled) {
+            let number = self.random.pick(&[4, 6, 7, 8, 9, 10]);
+            spoil(number, &mut pins, model, &mut self.random);
+        }
+        pins
+    }
+
+    /// A sample in which the clocks move and nothing is asked for. On the way to a place the clocks take the short way.
+    fn idle(&mut self, model: &Model, arrived: bool) -> Pins {
+        let pace = if arrived { self.pace } else { self.scene.way_there(model) };
+        let (wclk, rclk) = clocks(pace, model, &mut self.random);
+        Pins {
+            wclk,
+            rclk,
+            oe: self.random.one_in(8),
+            fwft_si: self.random.flip(),
+            write_skew_met: !self.random.one_in(self.missed),
+            read_skew_met: !self.random.one_in(self.missed),
+            data: self.random.bits() >> 14,
+            ..calm(model)
+        }
+    }
+
+    fn turn_over(&mut self, model: &Model) {
+        if self.left > 0 {
+            self.left -= 1;
+            return;
+        }
+        self.scene = self.next_scene(model);
+        self.pace = self.random.pick(&PACES);
+        self.missed = self.random.pick(&[1, 2, 2, 4, 1_000]);
+        self.left = match self.scene {
+            Scene::Resets => self.random.below(4),
+            Scene::Loading { .. } => 30 + self.random.below(120),
+            _ => 4 + self.random.below(if self.plan.far { 400 } else { 60 }),
+        };
+    }
+
+    /// A reset loses the words that a long trace was at pains to write, so it is rarer there.
+    fn next_scene(&mut self, model: &Model) -> Scene {
+        let reset_odds = if self.plan.far { 60 } else { 8 };
+        if self.random.one_in(reset_odds) {
+            return Scene::Resets;
+        }
+        match self.random.below(8) {
+            0..=2 => Scene::Hover { held: self.random.pick(&places_held(model, self.plan.far)) },
+            3 => Scene::Verge { written: self.random.pick(&places_written(model, self.plan.far)) },
+            4 => Scene::Retransmits,
+            5 => self.next_loading(model),
+            6 => Scene::OffsetReadings,
+            _ => Scene::Noise,
+        }
+    }
+
+    /// Offsets about the words now held make the almost-flags move soon; small and large ones make them overlap.
+    fn next_loading(&mut self, model: &Model) -> Scene {
+        let (depth, held) = (model.part.depth, model.held());
+        let about = held.saturating_sub(self.random.below(3));
+        let values = [0, 1, 5, depth / 2, depth - 1, depth - 4, about % depth, (depth - about) % depth];
+        Scene::Loading { n: self.random.pick(&values), m: self.random.pick(&values) }
+    }
+}

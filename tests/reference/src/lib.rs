@@ -1,0 +1,15 @@
+//! A second model of the FIFOs, written from the scope paper alone and in another shape than the proved one: the counts
+//! have no width, no stage is carried, and whatever a side sees is looked up in the history of rises since the reset.
+
+pub mod corners;
+pub mod generator;
+pub mod history;
+pub mod model;
+pub mod offsets;
+pub mod part;
+pub mod pins;
+pub mod random;
+pub mod refusals;
+pub mod scenes;
+pub mod subjects;
+pub mod trace;

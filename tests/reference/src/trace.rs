@@ -1,0 +1,87 @@
+//! A trace, and what the reference says to it.
+
+use crate::corners::Corners;
+use crate::generator::{Generator, Plan};
+use crate::model::{Model, Outcome};
+use crate::part::Part;
+use crate::random::Random;
+
+#[derive(Clone, Copy, PartialEq, Eq, Debug)]
+pub enum Step {
+    Record(u32),
+    /// The caller puts other words into the memory, which is its own: all 32 bits of each.
+    Refill(u32),
+}
+
+#[derive(Clone, Debug)]
+pub struct Trace {
+    pub part: Part,
+    pub steps: Vec<Step>,
+}
+
+/// What the reference says to a trace: an outcome for each record, and the memory left.
+pub struct Told {
+    pub outcomes: Vec<Outcome>,
+    pub memory: Vec<u32>,
+}
+
+/// The words a refill puts, by the xorshift sequence of its seed; the driver has the same.
+pub fn refill(memory: &mut [u32], seed: u32) {
+    let mut state = seed | 1;
+    for word in memory {
+        state ^= state << 13;
+        state ^= state >> 17;
+        state ^= state << 5;
+        *word = state;
+    }
+}
+
+impl Trace {
+    pub fn told(&self) -> Told {
+        let mut model = Model::power_up(self.part);
+        let mut memory = vec![0; self.part.depth as usize];
+        let mut outcomes = Vec::with_capacity(self.steps.len());
+        for &step in &self.steps {
+            match step {
+                Step::Record(record) => outcomes.push(model.sample(record, &mut memory)),
+                Step::Refill(seed) => refill(&mut memory, seed),
+            }
+        }
+        Told { outcomes, memory }
+    }
+
+    pub fn records(&self) -> impl Iterator<Item = u32> + '_ {
+        self.steps.iter().filter_map(|&step| match step {
+            Step::Record(record) => Some(record),
+            Step::Refill(_) => None,
+        })
+    }
+}
+
+/// A generated trace of so many records, noting the corners it comes through.
+pub fn generated(
+    part: Part,
+    plan: Plan,
+    records: usize,
+    refills: bool,
+    seed: u64,
+    corners: &mut Corners,
+) -> (Trace, Told) {
+    let mut random = Random::new(seed);
+    let mut generator = Generator::new(plan, Random::new(random.next()));
+    let mut model = Model::power_up(part);
+    let mut memory = vec![0; part.depth as usize];
+    let mut steps = Vec::with_capacity(records + 2);
+    let mut outcomes = Vec::with_capacity(records);
+    for index in 0..records {
+        if refills && (index == 0 || random.one_in(records as u64)) {
+            let seed = random.bits();
+            steps.push(Step::Refill(seed));
+            refill(&mut memory, seed);
+        }
+        let record = generator.next(&model);
+        steps.push(Step::Record(record));
+        outcomes.push(corners.watch(&mut model, record, &mut memory));
+    }
+    (Trace { part, steps }, Told { outcomes, memory })
+}
