@@ -4,7 +4,7 @@ use crate::model::{Mode, Model};
 use crate::pins::Pins;
 use crate::random::Random;
 use crate::refusals::refusal;
-use crate::scenes::{calm, clocks, places_held, places_written, spoil, Pace, Scene, PACES};
+use crate::scenes::{calm, clocks, places_held, places_written, spoil, Pace, Scene, PACES, WRITING};
 
 #[derive(Clone, Copy, Debug)]
 pub struct Plan {
@@ -33,14 +33,24 @@ impl Generator {
     }
 
     pub fn next(&mut self, model: &Model) -> u32 {
-        if !model.started() && !self.random.one_in(self.plan.spoiled.max(1) + 1) {
-            return self.master_reset(model).record();
+        let pins = if !model.started() {
+            self.first(model)
+        } else if self.plan.spoiled > 0 {
+            self.proposal(model)
+        } else {
+            let legal = (0..8).map(|_| self.proposal(model)).find(|&pins| refusal(model, pins).is_none());
+            legal.unwrap_or_else(|| calm(model))
+        };
+        pins.record()
+    }
+
+    /// Nothing but a Master Reset is taken at first.
+    fn first(&mut self, model: &Model) -> Pins {
+        if self.plan.spoiled > 0 && self.random.one_in(self.plan.spoiled) {
+            Pins { mrs: true, prs: self.random.flip(), ..Pins::of(self.random.bits()) }
+        } else {
+            self.master_reset(model)
         }
-        if self.plan.spoiled > 0 {
-            return self.proposal(model).record();
-        }
-        let legal = (0..8).map(|_| self.proposal(model)).find(|&pins| refusal(model, pins).is_none());
-        legal.unwrap_or_else(|| if model.started() { calm(model) } else { self.master_reset(model) }).record()
     }
 
     fn master_reset(&mut self, model: &Model) -> Pins {
@@ -85,11 +95,14 @@ impl Generator {
             return;
         }
         self.scene = self.next_scene(model);
-        self.pace = self.random.pick(&PACES);
+        self.pace = match self.scene {
+            Scene::Loading { .. } => self.random.pick(&WRITING),
+            _ => self.random.pick(&PACES),
+        };
         self.missed = self.random.pick(&[1, 2, 2, 4, 1_000]);
         self.left = match self.scene {
             Scene::Resets => self.random.below(4),
-            Scene::Loading { .. } => 30 + self.random.below(120),
+            Scene::Loading { .. } => 60 + self.random.below(160),
             _ => 4 + self.random.below(if self.plan.far { 400 } else { 60 }),
         };
     }

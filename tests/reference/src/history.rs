@@ -19,7 +19,7 @@ pub struct History {
     rises: Vec<Rise>,
 }
 
-const KEPT: usize = 48;
+const KEPT: usize = 24;
 
 impl History {
     pub fn new(almost_after_reset: bool) -> History {

@@ -28,6 +28,9 @@ pub const PACES: [Pace; 7] = [
     Pace::ReadFast,
 ];
 
+/// Those in which WCLK rises often.
+pub const WRITING: [Pace; 4] = [Pace::WriteAlone, Pace::Together, Pace::InTurns, Pace::WriteFast];
+
 #[derive(Clone, Copy, Debug)]
 pub enum Scene {
     /// Go to a number of words held and stay about it.
@@ -88,9 +91,10 @@ impl Scene {
         }
     }
 
-    /// The pace that brings a scene to its place soonest.
+    /// The pace that brings a scene to its place soonest. Both clocks have to run for a retransmit to be seen.
     pub fn way_there(self, model: &Model) -> Pace {
         match self {
+            _ if !model.retransmit_seen() => Pace::InTurns,
             Scene::Hover { held } if model.held() < held => Pace::WriteAlone,
             Scene::Hover { .. } => Pace::ReadAlone,
             _ => Pace::Together,
@@ -101,7 +105,7 @@ impl Scene {
     pub fn play(self, pins: &mut Pins, model: &Model, random: &mut Random) {
         match self {
             Scene::Hover { held } => hover(held, pins, model, random),
-            Scene::Verge { .. } if !self.arrived(model) => (pins.wen, pins.ren) = (false, false),
+            Scene::Verge { .. } if !self.arrived(model) => (pins.wen, pins.ren) = (!model.retransmit_seen(), false),
             Scene::Verge { .. } => verge(pins, random),
             Scene::Retransmits => retransmits(pins, model, random),
             Scene::Loading { n, m } => loading(n, m, pins, model, random),
@@ -116,6 +120,7 @@ fn hover(held: u64, pins: &mut Pins, model: &Model, random: &mut Random) {
     let (low, high) = (model.held() < held + 3, model.held() + 3 > held);
     pins.wen = !low && !random.one_in(8) || low && random.one_in(4);
     pins.ren = !high && !random.one_in(8) || high && random.one_in(4);
+    pins.wen |= !model.retransmit_seen() && !random.one_in(8);
     pins.ld = !random.one_in(64);
 }
 
@@ -147,6 +152,7 @@ fn loading(n: u64, m: u64, pins: &mut Pins, model: &Model, random: &mut Random) 
         pins.sen = random.one_in(6);
         pins.fwft_si = bits >> model.offsets.serial.len() & 1 == 1;
     }
+    pins.rt = !(pins.wen && pins.ren && random.one_in(12));
     if random.one_in(150) {
         resets(pins, model, random);
     }
@@ -182,8 +188,8 @@ pub fn spoil(number: u32, pins: &mut Pins, model: &Model, random: &mut Random) {
     let both = random.flip();
     pins.wclk |= both || matches!(number, 7 | 10);
     pins.rclk |= both || matches!(number, 8 | 9);
-    pins.mrs |= number != 4;
-    pins.prs |= number != 4;
+    pins.mrs = number != 4 || !random.one_in(8);
+    pins.prs = number != 4 || !random.one_in(8);
     match number {
         4 => pins.spare = true,
         6 => {
