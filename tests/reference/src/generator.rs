@@ -13,8 +13,8 @@ pub struct Plan {
     pub spoiled: u64,
     /// Whether the trace is long enough to fill the part.
     pub far: bool,
-    /// Words since the reset to go to at once, for a trace that is about their number.
-    pub written: u64,
+    /// What the trace goes for at once.
+    pub first: Scene,
 }
 
 pub struct Generator {
@@ -28,7 +28,7 @@ pub struct Generator {
 
 impl Generator {
     pub fn new(plan: Plan, random: Random) -> Generator {
-        let scene = Scene::Verge { written: plan.written };
+        let scene = plan.first;
         Generator { random, plan, scene, pace: Pace::Together, missed: 4, left: 200 }
     }
 
@@ -66,8 +66,9 @@ impl Generator {
         }
         let mut pins = self.idle(model, arrived);
         self.scene.play(&mut pins, model, &mut self.random);
-        if self.plan.spoiled > 0 && self.random.one_in(self.plan.spoiled) {
-            let number = self.random.pick(&[4, 6, 7, 8, 9, 10]);
+        if arrived && self.plan.spoiled > 0 && self.random.one_in(self.plan.spoiled) {
+            let often = if model.retransmit_seen() { 9 } else { 10 };
+            let number = self.random.pick(&[4, 6, 7, 8, 9, 10, often]);
             spoil(number, &mut pins, model, &mut self.random);
         }
         pins
@@ -123,11 +124,12 @@ impl Generator {
         }
     }
 
-    /// Offsets about the words now held make the almost-flags move soon; small and large ones make them overlap.
+    /// One offset at which the words now held are more, and one at which they are not, make the almost-flags move.
     fn next_loading(&mut self, model: &Model) -> Scene {
         let (depth, held) = (model.part.depth, model.held());
-        let about = held.saturating_sub(self.random.below(3));
-        let values = [0, 1, 5, depth / 2, depth - 1, depth - 4, about % depth, (depth - about) % depth];
-        Scene::Loading { n: self.random.pick(&values), m: self.random.pick(&values) }
+        let low = self.random.pick(&[0, 1, held.saturating_sub(1), (depth - held) % depth]);
+        let high = self.random.pick(&[held % depth, depth / 2, depth - 4, depth - 1]);
+        let (n, m) = if self.random.flip() { (low, high) } else { (high, low) };
+        Scene::Loading { n, m }
     }
 }

@@ -1,9 +1,12 @@
 //! A second model of the FIFOs, written from the scope paper alone and in another shape than the proved one: the counts
 //! have no width, no stage is carried, and whatever a side sees is looked up in the history of rises since the reset.
 
+pub mod compare;
 pub mod corners;
 pub mod generator;
 pub mod history;
+pub mod hostile;
+pub mod library;
 pub mod model;
 pub mod offsets;
 pub mod part;

@@ -1,21 +1,101 @@
-use reference::*;
-fn main() {
-    let args: Vec<String> = std::env::args().collect();
-    let seed: u64 = args[1].parse().unwrap();
-    let launch = program::Launch { native: args[2].clone(), program: args[3].clone() };
-    let mut random = random::Random::new(seed);
-    let mut corners = corners::Corners::default();
-    for (k, job) in plans::round(8, 60, &mut random).into_iter().enumerate() {
-        let (trace, _) = trace::generated(job.part, job.plan, job.records, false, random.next(), &mut corners);
-        let mut input = job.part.number.to_be_bytes().to_vec();
-        for r in trace.records() { input.extend(r.to_be_bytes()); }
-        let lenient = job.plan.spoiled > 0 ;
-        let want = program::expected(&input, lenient, &mut corners);
-        let got = program::printed(&launch, &input, lenient);
-        if want != got {
-            for (a,b) in want.lines().zip(got.lines()) { if a != b { println!("job {k} {job:?}: want {a} got {b}"); break; } }
-        }
+//! Tries the built library and the trace program against the reference: reference SEED AMOUNT NATIVE TRACE DRIVER.
+
+use std::env;
+use std::process::ExitCode;
+use std::thread;
+use std::time::Instant;
+
+use reference::compare::{self, Counterexample};
+use reference::corners::Corners;
+use reference::hostile::{Hostile, Tally};
+use reference::library::Library;
+use reference::plans::Amount;
+use reference::program::Launch;
+use reference::random::Random;
+
+struct Settings {
+    seed: u64,
+    amount: usize,
+    trace: Launch,
+    driver: Launch,
+}
+
+/// What one of the two comparisons came to.
+#[derive(Default)]
+struct Finding {
+    corners: Corners,
+    wrong: Option<Counterexample>,
+}
+
+fn settings() -> Option<Settings> {
+    let arguments: Vec<String> = env::args().skip(1).collect();
+    let [seed, amount, native, trace, driver] = arguments.as_slice() else {
+        return None;
+    };
+    let launch = |program: &String| Launch { native: native.clone(), program: program.clone() };
+    let (seed, amount) = (seed.parse().ok()?, amount.parse().ok()?);
+    Some(Settings { seed, amount, trace: launch(trace), driver: launch(driver) })
+}
+
+fn try_library(settings: &Settings, seed: u64) -> (Finding, Tally) {
+    let mut library = Library::new(settings.driver.clone());
+    let mut finding = Finding::default();
+    let amount = Amount { wide: 1, long: 2 * settings.amount, short: 100 * settings.amount };
+    finding.wrong = compare::library(&mut library, amount, seed, &mut finding.corners);
+    let mut tally = Tally::default();
+    if finding.wrong.is_none() {
+        (tally, finding.wrong) = try_hostile(&mut library, 60_000 * settings.amount as u64, seed);
     }
+    (finding, tally)
+}
+
+fn try_hostile(library: &mut Library, calls: u64, seed: u64) -> (Tally, Option<Counterexample>) {
+    let mut hostile = Hostile::new(library, seed).expect("the driver answers");
+    let ended = hostile.run(calls).err().map(|_| "hostile calls: the library's process ended".to_string());
+    (hostile.tally, hostile.wrong.or(ended))
+}
+
+fn try_program(settings: &Settings, seed: u64) -> Finding {
+    let mut finding = Finding::default();
+    let amount = Amount { wide: 1, long: settings.amount, short: 10 * settings.amount };
+    finding.wrong = compare::program(&settings.trace, amount, seed, &mut finding.corners);
+    finding
+}
+
+fn report(corners: &Corners, tally: &Tally, wrong: &[Counterexample], seconds: u64) -> bool {
     corners.print();
-    println!("{}", corners.samples);
+    println!("hostile calls by number: {:?}", tally.numbers);
+    println!("damaged states: {} spelled a state, {} none", tally.spelled, tally.unspelled);
+    for counterexample in wrong {
+        println!("DIFFERENCE {counterexample}");
+    }
+    let (samples, unreached) = (corners.samples, corners.unreached());
+    println!(
+        "outside: {samples} samples, {} hostile calls, {} differences, {unreached} corners not reached, {seconds} s",
+        tally.calls,
+        wrong.len()
+    );
+    wrong.is_empty() && unreached == 0
+}
+
+fn main() -> ExitCode {
+    let Some(settings) = settings() else {
+        eprintln!("usage: reference SEED AMOUNT NATIVE TRACE DRIVER");
+        return ExitCode::FAILURE;
+    };
+    let start = Instant::now();
+    let mut random = Random::new(settings.seed);
+    let (library_seed, program_seed) = (random.next(), random.next());
+    let ((by_library, tally), by_program) = thread::scope(|scope| {
+        let library = scope.spawn(|| try_library(&settings, library_seed));
+        let program = try_program(&settings, program_seed);
+        (library.join().expect("the comparison with the library ends"), program)
+    });
+    let mut corners = by_library.corners;
+    corners.add(&by_program.corners);
+    let wrong: Vec<Counterexample> = by_library.wrong.into_iter().chain(by_program.wrong).collect();
+    match report(&corners, &tally, &wrong, start.elapsed().as_secs()) {
+        true => ExitCode::SUCCESS,
+        false => ExitCode::FAILURE,
+    }
 }

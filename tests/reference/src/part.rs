@@ -7,10 +7,8 @@ pub struct Part {
     pub offset_bits: u32,
 }
 
-pub const PARTS: [Part; 2] = [
-    Part { number: 255, depth: 8_192, offset_bits: 13 },
-    Part { number: 265, depth: 16_384, offset_bits: 14 },
-];
+pub const PARTS: [Part; 2] =
+    [Part { number: 255, depth: 8_192, offset_bits: 13 }, Part { number: 265, depth: 16_384, offset_bits: 14 }];
 
 impl Part {
     /// Both offsets, one after the other.

@@ -4,6 +4,8 @@ use crate::generator::Plan;
 use crate::model::Mode;
 use crate::part::{Part, PARTS};
 use crate::random::Random;
+use crate::refusals::most_for_retransmit;
+use crate::scenes::Scene;
 
 /// A trace to be generated.
 #[derive(Clone, Copy, Debug)]
@@ -13,28 +15,55 @@ pub struct Job {
     pub records: usize,
 }
 
-const SHORT: u64 = 400;
-const LONG: usize = 60_000;
-/// Records to write 65,536 words and go on for a while.
-const WIDE: usize = 2 * 65_536 + 4_000;
+/// How many traces of each length there are for a part in a mode.
+#[derive(Clone, Copy)]
+pub struct Amount {
+    pub wide: usize,
+    pub long: usize,
+    pub short: usize,
+}
+
+const MOST_IN_SHORT: u64 = 400;
+const BEYOND_WIDTH: u64 = 65_536 + 64;
 
 fn each_part_and_mode() -> impl Iterator<Item = (Part, Mode)> {
     PARTS.into_iter().flat_map(|part| [(part, Mode::Standard), (part, Mode::FallThrough)])
 }
 
-/// The traces of one round: in each part and mode one that passes 65,536 words, some that fill the part, and many short
-/// ones. Every third is legal throughout.
-pub fn round(long: usize, short: usize, random: &mut Random) -> Vec<Job> {
+/// In each part and mode: traces that pass the width of the counts, traces that fill the part, and short ones.
+pub fn jobs(amount: Amount, random: &mut Random) -> Vec<Job> {
     let mut jobs = Vec::new();
     for (part, mode) in each_part_and_mode() {
-        let wide = Plan { mode, spoiled: 200, far: true, written: 65_537 };
-        jobs.push(Job { part, plan: wide, records: WIDE });
-        for index in 0..long + short {
-            let far = index < long;
-            let spoiled = if index % 3 == 0 { 0 } else { random.pick(&[2, 10, 40, 200]) };
-            let records = if far { LONG } else { 1 + random.below(SHORT) as usize };
-            jobs.push(Job { part, plan: Plan { mode, spoiled, far, written: 1 }, records });
-        }
+        jobs.extend((0..amount.wide).map(|_| wide(part, mode)));
+        jobs.extend((0..amount.long).map(|index| long(part, mode, spoiled(index, random), random)));
+        jobs.extend((0..amount.short).map(|index| short(part, mode, spoiled(index, random), random)));
     }
     jobs
+}
+
+/// Every third trace is legal throughout.
+fn spoiled(index: usize, random: &mut Random) -> u64 {
+    if index % 3 == 0 {
+        0
+    } else {
+        random.pick(&[2, 10, 40, 200])
+    }
+}
+
+fn wide(part: Part, mode: Mode) -> Job {
+    let plan = Plan { mode, spoiled: 200, far: true, first: Scene::Verge { written: BEYOND_WIDTH } };
+    Job { part, plan, records: 2 * BEYOND_WIDTH as usize + 4_000 }
+}
+
+fn long(part: Part, mode: Mode, spoiled: u64, random: &mut Random) -> Job {
+    let written = most_for_retransmit(part, mode);
+    let (full, half) = (Scene::Hover { held: part.depth }, Scene::Hover { held: part.depth / 2 });
+    let first = random.pick(&[full, half, Scene::Verge { written }, Scene::Verge { written }]);
+    Job { part, plan: Plan { mode, spoiled, far: true, first }, records: 5 * part.depth as usize }
+}
+
+fn short(part: Part, mode: Mode, spoiled: u64, random: &mut Random) -> Job {
+    let first = Scene::Verge { written: 1 };
+    let records = 1 + random.below(MOST_IN_SHORT) as usize;
+    Job { part, plan: Plan { mode, spoiled, far: false, first }, records }
 }

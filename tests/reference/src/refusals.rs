@@ -2,6 +2,7 @@
 
 use crate::model::{Mode, Model};
 use crate::offsets::Method;
+use crate::part::Part;
 use crate::pins::Pins;
 
 /// Every number whose condition holds, in the order of the table, each looked at by itself.
@@ -34,13 +35,13 @@ fn wrong_method(model: &Model, pins: Pins) -> bool {
 }
 
 /// The most words since the reset that a retransmit allows: the D - 2 of number 9.
-pub fn most_for_retransmit(model: &Model) -> u64 {
-    match model.mode {
-        Mode::Standard => model.part.depth - 2,
-        Mode::FallThrough => model.part.depth - 1,
+pub fn most_for_retransmit(part: Part, mode: Mode) -> u64 {
+    match mode {
+        Mode::Standard => part.depth - 2,
+        Mode::FallThrough => part.depth - 1,
     }
 }
 
 fn may_retransmit(model: &Model) -> bool {
-    (1..=most_for_retransmit(model)).contains(&model.written())
+    (1..=most_for_retransmit(model.part, model.mode)).contains(&model.written())
 }

@@ -18,15 +18,8 @@ pub enum Pace {
     ReadFast,
 }
 
-pub const PACES: [Pace; 7] = [
-    Pace::WriteAlone,
-    Pace::ReadAlone,
-    Pace::Together,
-    Pace::InTurns,
-    Pace::Loose,
-    Pace::WriteFast,
-    Pace::ReadFast,
-];
+pub const PACES: [Pace; 7] =
+    [Pace::WriteAlone, Pace::ReadAlone, Pace::Together, Pace::InTurns, Pace::Loose, Pace::WriteFast, Pace::ReadFast];
 
 /// Those in which WCLK rises often.
 pub const WRITING: [Pace; 4] = [Pace::WriteAlone, Pace::Together, Pace::InTurns, Pace::WriteFast];
@@ -34,12 +27,19 @@ pub const WRITING: [Pace; 4] = [Pace::WriteAlone, Pace::Together, Pace::InTurns,
 #[derive(Clone, Copy, Debug)]
 pub enum Scene {
     /// Go to a number of words held and stay about it.
-    Hover { held: u64 },
+    Hover {
+        held: u64,
+    },
     /// Go to a number of words written since the reset and try to retransmit about there.
-    Verge { written: u64 },
+    Verge {
+        written: u64,
+    },
     Retransmits,
-    /// Load these offsets, with breaks; serially they come as one number, n in the low bits.
-    Loading { n: u64, m: u64 },
+    /// Load these two values, with breaks: in parallel in any order, serially as n and m.
+    Loading {
+        n: u64,
+        m: u64,
+    },
     OffsetReadings,
     Resets,
     Noise,
@@ -106,7 +106,7 @@ impl Scene {
         match self {
             Scene::Hover { held } => hover(held, pins, model, random),
             Scene::Verge { .. } if !self.arrived(model) => (pins.wen, pins.ren) = (!model.retransmit_seen(), false),
-            Scene::Verge { .. } => verge(pins, random),
+            Scene::Verge { .. } => verge(pins, model, random),
             Scene::Retransmits => retransmits(pins, model, random),
             Scene::Loading { n, m } => loading(n, m, pins, model, random),
             Scene::OffsetReadings => offset_readings(pins, random),
@@ -124,9 +124,9 @@ fn hover(held: u64, pins: &mut Pins, model: &Model, random: &mut Random) {
     pins.ld = !random.one_in(64);
 }
 
-fn verge(pins: &mut Pins, random: &mut Random) {
-    pins.rt = !random.one_in(4);
-    pins.wen = !pins.rt || !random.one_in(6);
+fn verge(pins: &mut Pins, model: &Model, random: &mut Random) {
+    pins.rt = !random.one_in(6);
+    pins.wen = !pins.rt || !model.retransmit_seen() || !random.one_in(5);
     pins.ren = !pins.rt || random.flip();
 }
 
@@ -140,19 +140,19 @@ fn retransmits(pins: &mut Pins, model: &Model, random: &mut Random) {
 
 fn loading(n: u64, m: u64, pins: &mut Pins, model: &Model, random: &mut Random) {
     pins.ld = random.one_in(12);
-    let wanted = if model.offsets.loads % 2 == 0 { n } else { m };
-    let bits = n | m << model.part.offset_bits;
-    if !pins.ld && random.one_in(10) {
-        pins.ren = false;
-    } else if pins.ld || model.offsets.method == Method::Parallel {
-        pins.wen = random.one_in(4);
-        pins.ren = !pins.ld || random.flip();
-        pins.data = (wanted as u32 | pins.data << model.part.offset_bits) & WORD;
-    } else {
-        pins.sen = random.one_in(6);
-        pins.fwft_si = bits >> model.offsets.serial.len() & 1 == 1;
+    match random.below(10) {
+        0 => pins.ren = false,
+        1 => pins.rt = false,
+        _ if pins.ld || model.offsets.method == Method::Parallel => {
+            pins.wen = random.one_in(4);
+            pins.data = (random.pick(&[n, m]) as u32 | pins.data << model.part.offset_bits) & WORD;
+        }
+        _ => {
+            let bits = n | m << model.part.offset_bits;
+            pins.sen = random.one_in(6);
+            pins.fwft_si = bits >> model.offsets.serial.len() & 1 == 1;
+        }
     }
-    pins.rt = !(pins.wen && pins.ren && random.one_in(12));
     if random.one_in(150) {
         resets(pins, model, random);
     }
@@ -228,7 +228,7 @@ pub fn places_held(model: &Model, far: bool) -> Vec<u64> {
 /// The numbers of words written since the reset about which a retransmit is judged.
 pub fn places_written(model: &Model, far: bool) -> Vec<u64> {
     if far {
-        vec![1, most_for_retransmit(model), most_for_retransmit(model)]
+        vec![1, most_for_retransmit(model.part, model.mode)]
     } else {
         vec![1, 2]
     }

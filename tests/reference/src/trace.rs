@@ -1,9 +1,10 @@
 //! A trace, and what the reference says to it.
 
 use crate::corners::Corners;
-use crate::generator::{Generator, Plan};
+use crate::generator::Generator;
 use crate::model::{Model, Outcome};
 use crate::part::Part;
+use crate::plans::Job;
 use crate::random::Random;
 
 #[derive(Clone, Copy, PartialEq, Eq, Debug)]
@@ -58,23 +59,17 @@ impl Trace {
     }
 }
 
-/// A generated trace of so many records, noting the corners it comes through.
-pub fn generated(
-    part: Part,
-    plan: Plan,
-    records: usize,
-    refills: bool,
-    seed: u64,
-    corners: &mut Corners,
-) -> (Trace, Told) {
+/// A generated trace, noting the corners it comes through. With refills the memory is not empty at the start, and once or
+/// so is changed on the way.
+pub fn generated(job: Job, refills: bool, seed: u64, corners: &mut Corners) -> (Trace, Told) {
     let mut random = Random::new(seed);
-    let mut generator = Generator::new(plan, Random::new(random.next()));
-    let mut model = Model::power_up(part);
-    let mut memory = vec![0; part.depth as usize];
-    let mut steps = Vec::with_capacity(records + 2);
-    let mut outcomes = Vec::with_capacity(records);
-    for index in 0..records {
-        if refills && (index == 0 || random.one_in(records as u64)) {
+    let mut generator = Generator::new(job.plan, Random::new(random.next()));
+    let mut model = Model::power_up(job.part);
+    let mut memory = vec![0; job.part.depth as usize];
+    let mut steps = Vec::with_capacity(job.records + 2);
+    let mut outcomes = Vec::with_capacity(job.records);
+    for index in 0..job.records {
+        if refills && (index == 0 || random.one_in(job.records as u64)) {
             let seed = random.bits();
             steps.push(Step::Refill(seed));
             refill(&mut memory, seed);
@@ -83,5 +78,5 @@ pub fn generated(
         steps.push(Step::Record(record));
         outcomes.push(corners.watch(&mut model, record, &mut memory));
     }
-    (Trace { part, steps }, Told { outcomes, memory })
+    (Trace { part: job.part, steps }, Told { outcomes, memory })
 }

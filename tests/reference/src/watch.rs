@@ -139,7 +139,11 @@ impl Corners {
         let (before, pins, after) = (event.before, event.pins, event.after);
         self.note(after, Corner::Retransmit, true);
         self.note(after, Corner::RetransmitOneWord, before.written() == 1);
-        self.note(after, Corner::RetransmitMostWords, before.written() == most_for_retransmit(before));
+        self.note(
+            after,
+            Corner::RetransmitMostWords,
+            before.written() == most_for_retransmit(before.part, before.mode),
+        );
         self.note(after, Corner::RetransmitNothingRead, before.read_count() == 0);
         self.note(after, Corner::RetransmitUnseen, !before.retransmit_seen());
         self.note(after, Corner::RetransmitCoincident, event.write_rise);
@@ -239,15 +243,15 @@ impl Corners {
                 self.note(model, Corner::RefusedRetransmitLoad, !pins.ld);
             }
             9 => {
-                let allowed = 1..=most_for_retransmit(model);
+                let allowed = 1..=most_for_retransmit(model.part, model.mode);
                 self.note(model, Corner::RefusedNothing, words == 0);
                 self.note(model, Corner::RefusedOneMore, words == allowed.end() + 1);
                 self.note(model, Corner::RefusedPassed, words > WIDTH && allowed.contains(&(words % WIDTH)));
             }
             _ => {
                 let latest = model.writes.latest().number;
-                let crossed = latest > 0
-                    && taken_across(&model.writes, latest, &model.reads).number >= model.retransmit;
+                let crossed =
+                    latest > 0 && taken_across(&model.writes, latest, &model.reads).number >= model.retransmit;
                 self.note(model, Corner::RefusedUnseenFirst, !crossed);
                 self.note(model, Corner::RefusedUnseenSecond, crossed);
             }

@@ -74,11 +74,9 @@ fn after(words: u32) -> Bench {
 
 #[test]
 fn listing() {
-    let records: [u32; 9] = [
-        0x4D980000, 0xC7980041, 0xE7980041, 0xCF980000, 0xDF980000, 0xCF980000, 0xDF980000, 0xCB980000, 0xDB980000,
-    ];
-    let answers: [u32; 9] =
-        [0xAC0000, 0xAC0000, 0xAC0000, 0xAC0000, 0xAC0000, 0xAC0000, 0xEC0000, 0xEC0000, 0xAC0041];
+    let records: [u32; 9] =
+        [0x4D980000, 0xC7980041, 0xE7980041, 0xCF980000, 0xDF980000, 0xCF980000, 0xDF980000, 0xCB980000, 0xDB980000];
+    let answers: [u32; 9] = [0xAC0000, 0xAC0000, 0xAC0000, 0xAC0000, 0xAC0000, 0xAC0000, 0xEC0000, 0xEC0000, 0xAC0041];
     let mut model = Model::power_up(PARTS[0]);
     let mut memory = vec![0; 8_192];
     for (record, answer) in records.into_iter().zip(answers) {

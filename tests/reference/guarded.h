@@ -1,0 +1,20 @@
+/* Buffers between two pages that may not be touched. */
+#ifndef GUARDED_H
+#define GUARDED_H
+
+#include <stddef.h>
+#include <stdint.h>
+
+struct guarded {
+    uint8_t *start;
+    size_t room;
+};
+
+/* At least so many bytes with a forbidden page on either side. */
+struct guarded guarded_new(size_t bytes);
+
+/* So many of its bytes, up against the page in front or up against the page behind. A length beyond the room, which a
+   caller in error may give, gets a pointer into it all the same. */
+uint8_t *guarded_at(const struct guarded *buffer, uint64_t length, int against_front);
+
+#endif
