@@ -1,5 +1,7 @@
 //! The reference against the library and against the trace program, on many traces.
 
+use std::time::Duration;
+
 use crate::corners::Corners;
 use crate::library::{Difference, Library};
 use crate::plans::{jobs, Amount};
@@ -8,13 +10,21 @@ use crate::random::Random;
 use crate::shrink::shrunk;
 use crate::trace::{generated, Step, Trace};
 
-/// A trace on which the two differ, made small, in words.
-pub type Counterexample = String;
+const FOR_SHRINKING: Duration = Duration::from_secs(20);
+
+/// More steps than this are not printed.
+const READABLE: usize = 64;
+
+/// A trace on which the two differ, made small: as an input of the trace program, and in words.
+pub struct Counterexample {
+    pub input: Vec<u8>,
+    pub words: String,
+}
 
 pub fn library(library: &mut Library, amount: Amount, seed: u64, corners: &mut Corners) -> Option<Counterexample> {
     let mut random = Random::new(seed);
     for job in jobs(amount, &mut random) {
-        let (trace, told) = generated(job, true, random.next(), corners);
+        let (trace, told) = generated(job, true, random.draw(), corners);
         if let Some(difference) = library.difference(&trace, &told) {
             return Some(smallest_trace(library, trace, difference));
         }
@@ -27,7 +37,7 @@ fn smallest_trace(library: &mut Library, trace: Trace, difference: Difference) -
     let last = trace.steps.iter().enumerate().filter(|(_, step)| matches!(step, Step::Record(_)));
     let end = last.map(|(place, _)| place + 1).nth(difference.records - 1).unwrap_or(trace.steps.len());
     let mut words = difference.words;
-    let steps = shrunk(trace.steps[..end].to_vec(), 400, |steps| {
+    let steps = shrunk(trace.steps[..end].to_vec(), FOR_SHRINKING, |steps| {
         let trace = Trace { part, steps: steps.to_vec() };
         match library.difference(&trace, &trace.told()) {
             Some(difference) => {
@@ -37,23 +47,24 @@ fn smallest_trace(library: &mut Library, trace: Trace, difference: Difference) -
             None => false,
         }
     });
-    let steps: Vec<String> = steps.iter().map(|step| format!("{step:08X?}")).collect();
-    format!("C call, part {}: {}\n{words}", part.number, steps.join(" "))
+    let listed: Vec<String> = steps.iter().take(READABLE).map(|step| format!("{step:08X?}")).collect();
+    let trace = Trace { part, steps };
+    let words = format!("C call, part {}, {} steps: {}\n{words}", part.number, trace.steps.len(), listed.join(" "));
+    Counterexample { input: trace.input(), words }
 }
 
 pub fn program(launch: &Launch, amount: Amount, seed: u64, corners: &mut Corners) -> Option<Counterexample> {
     let mut random = Random::new(seed);
     let mut inputs = odd_inputs();
     for job in jobs(amount, &mut random) {
-        let (trace, _) = generated(job, false, random.next(), &mut Corners::default());
-        let mut input = trace.part.number.to_be_bytes().to_vec();
-        input.extend(trace.records().flat_map(u32::to_be_bytes));
+        let (trace, _) = generated(job, false, random.draw(), &mut Corners::default());
+        let mut input = trace.input();
         if random.one_in(3) {
             damage(&mut input, &mut random);
         }
         inputs.push(input);
         while let Some(input) = inputs.pop() {
-            let lenient = random.flip();
+            let lenient = random.one_in(3);
             if expected(&input, lenient, corners) != printed(launch, &input, lenient) {
                 return Some(smallest_input(launch, input, lenient));
             }
@@ -94,11 +105,14 @@ fn smallest_input(launch: &Launch, input: Vec<u8>, lenient: bool) -> Counterexam
     let first = first_difference(&told(&input), &printed(launch, &input, lenient));
     let cut = records[..records.len().min(first + 1)].to_vec();
     let differs = |records: &[&[u8]]| told(&whole(records)) != printed(launch, &whole(records), lenient);
-    let records = if differs(&cut) { shrunk(cut, 100, differs) } else { records };
+    let records = if differs(&cut) { shrunk(cut, FOR_SHRINKING, differs) } else { records };
     let input = whole(&records);
-    let hex: String = input.iter().map(|byte| format!("{byte:02X}")).collect();
+    let hex: String = input.iter().take(4 * READABLE).map(|byte| format!("{byte:02X}")).collect();
     let (ours, theirs) = (told(&input), printed(launch, &input, lenient));
-    format!("trace program, lenient {lenient}: {hex}\nexpected\n{ours}got\n{theirs}")
+    let line = first_difference(&ours, &theirs);
+    let (our, their) = (ours.lines().nth(line), theirs.lines().nth(line));
+    let words = format!("trace program, lenient {lenient}: {hex}\nline {line}: expected {our:?}, got {their:?}");
+    Counterexample { input, words }
 }
 
 fn first_difference(ours: &str, theirs: &str) -> usize {

@@ -28,8 +28,8 @@ pub struct Generator {
 
 impl Generator {
     pub fn new(plan: Plan, random: Random) -> Generator {
-        let scene = plan.first;
-        Generator { random, plan, scene, pace: Pace::Together, missed: 4, left: 200 }
+        let (scene, left) = (plan.first, if plan.far { 600 } else { 20 });
+        Generator { random, plan, scene, pace: Pace::Together, missed: 4, left }
     }
 
     pub fn next(&mut self, model: &Model) -> u32 {

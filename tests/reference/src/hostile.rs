@@ -74,7 +74,7 @@ impl<'a> Hostile<'a> {
         let part = self.random.pick(&PARTS);
         let mode = self.random.pick(&[Mode::Standard, Mode::FallThrough]);
         let plan = Plan { mode, spoiled: 4, far: false, first: Scene::Verge { written: 1 } };
-        let mut generator = Generator::new(plan, Random::new(self.random.next()));
+        let mut generator = Generator::new(plan, Random::new(self.random.draw()));
         let mut model = Model::power_up(part);
         let mut memory = vec![0; part.depth as usize];
         self.library.power_up(part, self.random.flip())?;

@@ -6,7 +6,7 @@ use std::process::{Child, ChildStdin, ChildStdout};
 use crate::model::Outcome;
 use crate::part::Part;
 use crate::program::Launch;
-use crate::trace::{Step, Told, Trace};
+use crate::trace::{Step, Told, Trace, FIRST_REFILL};
 
 /// Samples sent in one piece: its replies fit into a pipe, so that neither process waits for the other for ever.
 const PIECE: usize = 8_192;
@@ -179,7 +179,7 @@ impl Library {
 
     fn compare(&mut self, trace: &Trace, told: &Told) -> Result<Option<Difference>> {
         self.power_up(trace.part, trace.steps.len() % 2 == 1)?;
-        self.refill(0)?;
+        self.refill(FIRST_REFILL)?;
         let mut compared = 0;
         for piece in trace.steps.split_inclusive(|step| matches!(step, Step::Refill(_))) {
             let outcomes = &told.outcomes[compared..];

@@ -1,6 +1,9 @@
 //! Tries the built library and the trace program against the reference: reference SEED AMOUNT NATIVE TRACE DRIVER.
+//! A counterexample is also left next to the driver, as an input of the trace program.
 
 use std::env;
+use std::fs;
+use std::path::Path;
 use std::process::ExitCode;
 use std::thread;
 use std::time::Instant;
@@ -51,13 +54,15 @@ fn try_library(settings: &Settings, seed: u64) -> (Finding, Tally) {
 
 fn try_hostile(library: &mut Library, calls: u64, seed: u64) -> (Tally, Option<Counterexample>) {
     let mut hostile = Hostile::new(library, seed).expect("the driver answers");
-    let ended = hostile.run(calls).err().map(|_| "hostile calls: the library's process ended".to_string());
-    (hostile.tally, hostile.wrong.or(ended))
+    let ended = hostile.run(calls).err().map(|_| "the library's process ended".to_string());
+    let wrong = hostile.wrong.or(ended);
+    let wrong = wrong.map(|words| Counterexample { input: Vec::new(), words: format!("hostile call: {words}") });
+    (hostile.tally, wrong)
 }
 
 fn try_program(settings: &Settings, seed: u64) -> Finding {
     let mut finding = Finding::default();
-    let amount = Amount { wide: 1, long: settings.amount, short: 10 * settings.amount };
+    let amount = Amount { wide: 1, long: settings.amount, short: 16 * settings.amount };
     finding.wrong = compare::program(&settings.trace, amount, seed, &mut finding.corners);
     finding
 }
@@ -67,7 +72,7 @@ fn report(corners: &Corners, tally: &Tally, wrong: &[Counterexample], seconds: u
     println!("hostile calls by number: {:?}", tally.numbers);
     println!("damaged states: {} spelled a state, {} none", tally.spelled, tally.unspelled);
     for counterexample in wrong {
-        println!("DIFFERENCE {counterexample}");
+        println!("DIFFERENCE {}", counterexample.words);
     }
     let (samples, unreached) = (corners.samples, corners.unreached());
     println!(
@@ -85,7 +90,7 @@ fn main() -> ExitCode {
     };
     let start = Instant::now();
     let mut random = Random::new(settings.seed);
-    let (library_seed, program_seed) = (random.next(), random.next());
+    let (library_seed, program_seed) = (random.draw(), random.draw());
     let ((by_library, tally), by_program) = thread::scope(|scope| {
         let library = scope.spawn(|| try_library(&settings, library_seed));
         let program = try_program(&settings, program_seed);
@@ -94,6 +99,10 @@ fn main() -> ExitCode {
     let mut corners = by_library.corners;
     corners.add(&by_program.corners);
     let wrong: Vec<Counterexample> = by_library.wrong.into_iter().chain(by_program.wrong).collect();
+    if let Some(counterexample) = wrong.iter().find(|counterexample| !counterexample.input.is_empty()) {
+        let file = Path::new(&settings.driver.program).with_file_name("counterexample.trace");
+        fs::write(file, &counterexample.input).expect("the counterexample can be left");
+    }
     match report(&corners, &tally, &wrong, start.elapsed().as_secs()) {
         true => ExitCode::SUCCESS,
         false => ExitCode::FAILURE,

@@ -29,7 +29,7 @@ impl Offsets {
     }
 
     pub fn load(&mut self, part: Part, data: u32) {
-        let register = if self.loads % 2 == 0 { &mut self.n } else { &mut self.m };
+        let register = if self.loads.is_multiple_of(2) { &mut self.n } else { &mut self.m };
         *register = part.offset(data);
         self.loads += 1;
     }
@@ -45,7 +45,7 @@ impl Offsets {
 
     /// The value to show for the next reading, as the registers stand now.
     pub fn next_reading(&mut self) -> u64 {
-        let value = if self.readings % 2 == 0 { self.n } else { self.m };
+        let value = if self.readings.is_multiple_of(2) { self.n } else { self.m };
         self.readings += 1;
         value
     }

@@ -30,20 +30,22 @@ fn each_part_and_mode() -> impl Iterator<Item = (Part, Mode)> {
     PARTS.into_iter().flat_map(|part| [(part, Mode::Standard), (part, Mode::FallThrough)])
 }
 
-/// In each part and mode: traces that pass the width of the counts, traces that fill the part, and short ones.
+/// In each part and mode: short traces, traces that fill the part, and traces that pass the width of the counts. The short
+/// ones come first, so that a difference is found in a short one if it can be.
 pub fn jobs(amount: Amount, random: &mut Random) -> Vec<Job> {
     let mut jobs = Vec::new();
     for (part, mode) in each_part_and_mode() {
-        jobs.extend((0..amount.wide).map(|_| wide(part, mode)));
-        jobs.extend((0..amount.long).map(|index| long(part, mode, spoiled(index, random), random)));
         jobs.extend((0..amount.short).map(|index| short(part, mode, spoiled(index, random), random)));
+        jobs.extend((0..amount.long).map(|index| long(part, mode, index, spoiled(index, random))));
+        jobs.extend((0..amount.wide).map(|_| wide(part, mode)));
     }
+    jobs.sort_by_key(|job| job.records);
     jobs
 }
 
 /// Every third trace is legal throughout.
 fn spoiled(index: usize, random: &mut Random) -> u64 {
-    if index % 3 == 0 {
+    if index.is_multiple_of(3) {
         0
     } else {
         random.pick(&[2, 10, 40, 200])
@@ -55,10 +57,10 @@ fn wide(part: Part, mode: Mode) -> Job {
     Job { part, plan, records: 2 * BEYOND_WIDTH as usize + 4_000 }
 }
 
-fn long(part: Part, mode: Mode, spoiled: u64, random: &mut Random) -> Job {
+fn long(part: Part, mode: Mode, index: usize, spoiled: u64) -> Job {
     let written = most_for_retransmit(part, mode);
     let (full, half) = (Scene::Hover { held: part.depth }, Scene::Hover { held: part.depth / 2 });
-    let first = random.pick(&[full, half, Scene::Verge { written }, Scene::Verge { written }]);
+    let first = [full, Scene::Verge { written }, half, Scene::Verge { written }][index % 4];
     Job { part, plan: Plan { mode, spoiled, far: true, first }, records: 5 * part.depth as usize }
 }
 

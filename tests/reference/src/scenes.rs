@@ -106,10 +106,10 @@ impl Scene {
         match self {
             Scene::Hover { held } => hover(held, pins, model, random),
             Scene::Verge { .. } if !self.arrived(model) => (pins.wen, pins.ren) = (!model.retransmit_seen(), false),
-            Scene::Verge { .. } => verge(pins, model, random),
+            Scene::Verge { written } => verge(written, pins, model, random),
             Scene::Retransmits => retransmits(pins, model, random),
             Scene::Loading { n, m } => loading(n, m, pins, model, random),
-            Scene::OffsetReadings => offset_readings(pins, random),
+            Scene::OffsetReadings => offset_readings(pins, model, random),
             Scene::Resets => resets(pins, model, random),
             Scene::Noise => noise(pins, random),
         }
@@ -124,9 +124,11 @@ fn hover(held: u64, pins: &mut Pins, model: &Model, random: &mut Random) {
     pins.ld = !random.one_in(64);
 }
 
-fn verge(pins: &mut Pins, model: &Model, random: &mut Random) {
+/// At the number and beyond it the words come slowly, so that retransmits are tried at each.
+fn verge(written: u64, pins: &mut Pins, model: &Model, random: &mut Random) {
+    let write_odds = if model.written() < written { 3 } else { 24 };
     pins.rt = !random.one_in(6);
-    pins.wen = !pins.rt || !model.retransmit_seen() || !random.one_in(5);
+    pins.wen = !pins.rt || !model.retransmit_seen() || !random.one_in(write_odds);
     pins.ren = !pins.rt || random.flip();
 }
 
@@ -153,16 +155,19 @@ fn loading(n: u64, m: u64, pins: &mut Pins, model: &Model, random: &mut Random) 
             pins.fwft_si = bits >> model.offsets.serial.len() & 1 == 1;
         }
     }
-    if random.one_in(150) {
+    if random.one_in(100) {
         resets(pins, model, random);
     }
 }
 
-fn offset_readings(pins: &mut Pins, random: &mut Random) {
+fn offset_readings(pins: &mut Pins, model: &Model, random: &mut Random) {
     pins.ld = random.one_in(6);
     pins.ren = random.one_in(5);
     pins.wen = !(pins.ld && random.flip());
     pins.rt = !(pins.ren && random.one_in(6));
+    if random.one_in(100) {
+        resets(pins, model, random);
+    }
 }
 
 /// A Master Reset mostly keeps the mode, so that a trace stays in the one it was planned for.

@@ -1,18 +1,20 @@
 //! Makes a counterexample small enough to read.
 
-/// Drops ever smaller pieces as long as what is left still differs, trying no more often than allowed.
-pub fn shrunk<T: Clone>(mut items: Vec<T>, mut tries: u32, mut differs: impl FnMut(&[T]) -> bool) -> Vec<T> {
+use std::time::{Duration, Instant};
+
+/// Drops ever smaller pieces as long as what is left still differs, and as long as there is time.
+pub fn shrunk<T: Clone>(mut items: Vec<T>, time: Duration, mut differs: impl FnMut(&[T]) -> bool) -> Vec<T> {
+    let start = Instant::now();
     let mut piece = items.len() / 2;
     while piece > 0 {
-        let mut start = 0;
-        while start < items.len() && tries > 0 {
-            tries -= 1;
-            let end = (start + piece).min(items.len());
-            let rest: Vec<T> = items[..start].iter().chain(&items[end..]).cloned().collect();
+        let mut place = 0;
+        while place < items.len() && start.elapsed() < time {
+            let end = (place + piece).min(items.len());
+            let rest: Vec<T> = items[..place].iter().chain(&items[end..]).cloned().collect();
             if differs(&rest) {
                 items = rest;
             } else {
-                start = end;
+                place = end;
             }
         }
         piece /= 2;

@@ -26,6 +26,8 @@ pub struct Told {
     pub memory: Vec<u32>,
 }
 
+pub const FIRST_REFILL: u32 = 1;
+
 /// The words a refill puts, by the xorshift sequence of its seed; the driver has the same.
 pub fn refill(memory: &mut [u32], seed: u32) {
     let mut state = seed | 1;
@@ -37,10 +39,17 @@ pub fn refill(memory: &mut [u32], seed: u32) {
     }
 }
 
+/// The memory that every trace starts with.
+pub fn first_memory(part: Part) -> Vec<u32> {
+    let mut memory = vec![0; part.depth as usize];
+    refill(&mut memory, FIRST_REFILL);
+    memory
+}
+
 impl Trace {
     pub fn told(&self) -> Told {
         let mut model = Model::power_up(self.part);
-        let mut memory = vec![0; self.part.depth as usize];
+        let mut memory = first_memory(self.part);
         let mut outcomes = Vec::with_capacity(self.steps.len());
         for &step in &self.steps {
             match step {
@@ -51,6 +60,13 @@ impl Trace {
         Told { outcomes, memory }
     }
 
+    /// The trace as the trace program reads it.
+    pub fn input(&self) -> Vec<u8> {
+        let mut input = self.part.number.to_be_bytes().to_vec();
+        input.extend(self.records().flat_map(u32::to_be_bytes));
+        input
+    }
+
     pub fn records(&self) -> impl Iterator<Item = u32> + '_ {
         self.steps.iter().filter_map(|&step| match step {
             Step::Record(record) => Some(record),
@@ -59,17 +75,16 @@ impl Trace {
     }
 }
 
-/// A generated trace, noting the corners it comes through. With refills the memory is not empty at the start, and once or
-/// so is changed on the way.
+/// A generated trace, noting the corners it comes through. With refills the memory is changed about twice on the way.
 pub fn generated(job: Job, refills: bool, seed: u64, corners: &mut Corners) -> (Trace, Told) {
     let mut random = Random::new(seed);
-    let mut generator = Generator::new(job.plan, Random::new(random.next()));
+    let mut generator = Generator::new(job.plan, Random::new(random.draw()));
     let mut model = Model::power_up(job.part);
-    let mut memory = vec![0; job.part.depth as usize];
+    let mut memory = first_memory(job.part);
     let mut steps = Vec::with_capacity(job.records + 2);
     let mut outcomes = Vec::with_capacity(job.records);
-    for index in 0..job.records {
-        if refills && (index == 0 || random.one_in(job.records as u64)) {
+    for _ in 0..job.records {
+        if refills && random.one_in(job.records as u64 / 2 + 1) {
             let seed = random.bits();
             steps.push(Step::Refill(seed));
             refill(&mut memory, seed);
