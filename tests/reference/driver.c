@@ -7,7 +7,7 @@
 #include "fifo.h"
 #include "guarded.h"
 
-enum { RECORD = 4, ANSWER = 3, FILLED = 0xA5 };
+enum { RECORD = 4, ANSWER = 3, EIGHT = 8, FILLED = 0xA5 };
 enum { STATE_MOVED = 1, MEMORY_MOVED = 2, ANSWER_MOVED = 4, RECORD_MOVED = 8, NOT_REPEATED = 16 };
 
 /* What one call is given besides the state and the memory, as it comes in the command. */
@@ -20,14 +20,11 @@ struct call {
 static struct guarded records, states, memories[2], rooms;
 static int against_front;
 static uint32_t part, state_bytes;
-static uint8_t *saved_state;
+static uint8_t *saved_state, *last_state;
 
-/* The state page and the memory as they stood at some moment. */
-struct copy {
-    uint8_t *state, *memory;
-};
-
-static struct copy before, once;
+static const uint8_t filled[ANSWER] = {FILLED, FILLED, FILLED};
+/* Whether the memories may have changed since their copies were taken. */
+static int memory_copies_old = 1;
 
 static void stop(const char *why)
 {
@@ -81,53 +78,50 @@ static uint32_t sample(const struct call *call)
                        guarded_at(&rooms, call->answer_length, against_front), call->answer_length);
 }
 
-static struct copy copy_new(void)
-{
-    struct copy copy = {malloc(states.room), malloc(memories[1].room)};
-    if (copy.state == NULL || copy.memory == NULL)
-        stop("no room for copies");
-    return copy;
-}
-
-static void keep(struct copy *copy, const struct guarded *memory)
-{
-    memcpy(copy->state, states.start, states.room);
-    memcpy(copy->memory, memory->start, memory->room);
-}
-
-static void put_back(const struct copy *copy, struct guarded *memory)
-{
-    memcpy(states.start, copy->state, states.room);
-    memcpy(memory->start, copy->memory, memory->room);
-}
-
-static int moved_since(const struct copy *copy, const struct guarded *memory)
-{
-    return (memcmp(states.start, copy->state, states.room) != 0 ? STATE_MOVED : 0) |
-           (memcmp(memory->start, copy->memory, memory->room) != 0 ? MEMORY_MOVED : 0);
-}
-
-/* How many bytes of the page with the answer room are no longer as they were filled. */
-static size_t answer_bytes_moved(void)
-{
-    size_t moved = 0;
-    for (size_t i = 0; i < rooms.room; i++)
-        moved += rooms.start[i] != FILLED;
-    return moved;
-}
-
-static int answer_moved(uint32_t code)
-{
-    size_t allowed = code == 0 ? ANSWER : 0;
-    return answer_bytes_moved() > allowed ? ANSWER_MOVED : 0;
-}
-
 static int record_moved(const struct call *call)
 {
     uint8_t *record = guarded_at(&records, call->record_length, against_front);
-    return call->record_length <= sizeof call->record && memcmp(record, call->record, call->record_length) != 0
-               ? RECORD_MOVED
-               : 0;
+    return call->record_length <= sizeof call->record && memcmp(record, call->record, call->record_length) != 0;
+}
+
+static int moved(const struct call *call)
+{
+    return (guarded_moved(&states) ? STATE_MOVED : 0) |
+           (guarded_moved(memory_for(call->memory_length)) ? MEMORY_MOVED : 0) |
+           (guarded_moved(&rooms) ? ANSWER_MOVED : 0) | (record_moved(call) ? RECORD_MOVED : 0);
+}
+
+static void keep_all(void)
+{
+    if (memory_copies_old) {
+        guarded_keep(&memories[0]);
+        guarded_keep(&memories[1]);
+        memory_copies_old = 0;
+    }
+    memcpy(guarded_at(&rooms, ANSWER, against_front), filled, ANSWER);
+    guarded_keep(&rooms);
+    guarded_keep(&states);
+}
+
+static void exchange(struct guarded *buffer, const uint8_t *from, size_t bytes)
+{
+    for (size_t i = (size_t)(from - buffer->start), end = i + bytes; i < end; i++) {
+        uint8_t byte = buffer->start[i];
+        buffer->start[i] = buffer->copy[i];
+        buffer->copy[i] = byte;
+    }
+}
+
+/* A taken call may have changed the state, the answer and one word of the memory. These and their copies change places, so
+   that all is as before the call and the copies are as after it, unless more has changed. */
+static void go_back(const struct call *call)
+{
+    struct guarded *memory = memory_for(call->memory_length);
+    size_t word = guarded_first_moved(memory);
+    exchange(&states, state_now(), state_bytes);
+    exchange(&rooms, guarded_at(&rooms, ANSWER, against_front), ANSWER);
+    if (word < memory->room)
+        exchange(memory, memory->start + word, EIGHT);
 }
 
 /* One call made twice from the same bytes, everything around it looked at. */
@@ -135,23 +129,20 @@ static void watched_call(void)
 {
     struct call call;
     receive(&call, sizeof call);
-    struct guarded *memory = memory_for(call.memory_length);
-    keep(&before, memory);
-    memset(rooms.start, FILLED, rooms.room);
+    keep_all();
     uint32_t code = sample(&call);
-    int moved = answer_moved(code) | record_moved(&call);
-    uint8_t answer[ANSWER] = {0};
-    if (code != 0)
-        moved |= moved_since(&before, memory);
+    uint8_t faults = 0, answer[ANSWER] = {0};
+    if (code == 0)
+        go_back(&call);
     else
+        faults |= moved(&call);
+    if (sample(&call) != code)
+        faults |= NOT_REPEATED;
+    faults |= moved(&call);
+    if (code == 0)
         memcpy(answer, guarded_at(&rooms, ANSWER, against_front), ANSWER);
-    keep(&once, memory);
-    put_back(&before, memory);
-    if (sample(&call) != code || moved_since(&once, memory) != 0 ||
-        (code == 0 && memcmp(answer, guarded_at(&rooms, ANSWER, against_front), ANSWER) != 0))
-        moved |= NOT_REPEATED;
     reply(&code, sizeof code);
-    reply(&moved, 1);
+    reply(&faults, 1);
     reply(answer, ANSWER);
 }
 
@@ -159,24 +150,24 @@ static void watched_call(void)
    expects a refusal. The reply to each is the number and either the answer or what moved. */
 static void samples_in_a_row(void)
 {
-    struct guarded *memory = memory_for(fifo_memory_bytes(part));
     struct call call = {part, {0}, RECORD, state_bytes, fifo_memory_bytes(part), ANSWER};
+    struct guarded *memory = memory_for(call.memory_length);
     uint8_t *answer = guarded_at(&rooms, ANSWER, against_front);
+    memory_copies_old = 1;
     for (uint32_t left = receive_number(); left > 0; left--) {
         uint8_t watch_memory, told[1 + ANSWER] = {0};
-        static const uint8_t filled[ANSWER] = {FILLED, FILLED, FILLED};
         receive(&watch_memory, 1);
         receive(call.record, RECORD);
-        memcpy(before.state, state_now(), state_bytes);
+        memcpy(last_state, state_now(), state_bytes);
         if (watch_memory)
-            memcpy(before.memory, memory->start, memory->room);
+            guarded_keep(memory);
         memcpy(answer, filled, ANSWER);
         told[0] = (uint8_t)sample(&call);
         if (told[0] == 0)
             memcpy(told + 1, answer, ANSWER);
         else
-            told[1] = (memcmp(before.state, state_now(), state_bytes) != 0 ? STATE_MOVED : 0) |
-                      (watch_memory && memcmp(before.memory, memory->start, memory->room) != 0 ? MEMORY_MOVED : 0) |
+            told[1] = (memcmp(last_state, state_now(), state_bytes) != 0 ? STATE_MOVED : 0) |
+                      (watch_memory && guarded_moved(memory) ? MEMORY_MOVED : 0) |
                       (memcmp(answer, filled, ANSWER) != 0 ? ANSWER_MOVED : 0);
         reply(told, sizeof told);
     }
@@ -194,11 +185,11 @@ static void watched_power_up(void)
 {
     uint64_t length;
     receive(&length, sizeof length);
-    keep(&before, &memories[0]);
+    guarded_keep(&states);
     uint32_t code = fifo_power_up(guarded_at(&states, length, against_front), length);
-    int moved = moved_since(&before, &memories[0]);
+    uint8_t faults = guarded_moved(&states) ? STATE_MOVED : 0;
     reply(&code, sizeof code);
-    reply(&moved, 1);
+    reply(&faults, 1);
 }
 
 /* The xorshift sequence of a seed. */
@@ -213,6 +204,7 @@ static void refill(void)
 {
     uint32_t word = receive_number() | 1;
     uint8_t *memory = memory_now();
+    memory_copies_old = 1;
     for (uint32_t i = 0; i < fifo_memory_bytes(part); i += 4) {
         word = next_word(word);
         for (int byte = 0; byte < 4; byte++)
@@ -269,11 +261,10 @@ int main(void)
     memories[0] = guarded_new(fifo_memory_bytes(255));
     memories[1] = guarded_new(fifo_memory_bytes(265));
     rooms = guarded_new(ANSWER);
-    before = copy_new();
-    once = copy_new();
     saved_state = malloc(state_bytes);
-    if (saved_state == NULL)
-        stop("no room for a state");
+    last_state = malloc(state_bytes);
+    if (saved_state == NULL || last_state == NULL)
+        stop("no room for states");
     for (int command = getchar(); command != EOF; command = getchar())
         obey(command);
     return 0;

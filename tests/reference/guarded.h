@@ -1,4 +1,4 @@
-/* Buffers between two pages that may not be touched. */
+/* Buffers between two pages that may not be touched, each with a copy by which to tell what has moved. */
 #ifndef GUARDED_H
 #define GUARDED_H
 
@@ -6,7 +6,7 @@
 #include <stdint.h>
 
 struct guarded {
-    uint8_t *start;
+    uint8_t *start, *copy;
     size_t room;
 };
 
@@ -16,5 +16,13 @@ struct guarded guarded_new(size_t bytes);
 /* So many of its bytes, up against the page in front or up against the page behind. A length beyond the room, which a
    caller in error may give, gets a pointer into it all the same. */
 uint8_t *guarded_at(const struct guarded *buffer, uint64_t length, int against_front);
+
+/* Takes the copy anew. */
+void guarded_keep(struct guarded *buffer);
+
+int guarded_moved(const struct guarded *buffer);
+
+/* Where the first eight bytes lie of which one has moved; the room where none has. */
+size_t guarded_first_moved(const struct guarded *buffer);
 
 #endif
