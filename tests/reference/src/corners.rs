@@ -14,7 +14,7 @@ enum Scope {
 
 macro_rules! corners {
     ($($corner:ident $scope:ident $words:literal,)*) => {
-        #[derive(Clone, Copy)]
+        #[derive(Clone, Copy, PartialEq, Eq)]
         pub enum Corner { $($corner),* }
         const LIST: &[(Scope, &str)] = &[$((Scope::$scope, $words)),*];
     };
@@ -121,6 +121,12 @@ corners! {
     ReasonsRetransmitWords Both "8 before 9",
     ReasonsRetransmitUnseen Both "8 before 10",
     RefusedThenTaken Both "a rise refused, and taken in the next sample",
+    OtherPartTaken Anywhere "a state taken as the other part's",
+    OtherOffset Anywhere "3 as the other part's: only an offset",
+    OtherShown Anywhere "3 as the other part's: the offset shown",
+    OtherSerial Anywhere "3 as the other part's: only the serial bits",
+    OtherReadCount Anywhere "3 as the other part's: the read count",
+    OtherStage Anywhere "3 as the other part's: only a stage",
     LeftOver Anywhere "bytes left over",
     StrictStopFour Anywhere "strict run ended by 4",
     StrictStopFive Anywhere "strict run ended by 5",

@@ -87,6 +87,13 @@ pub fn taken_across(own: &History, number: u64, other: &History) -> Rise {
     }
 }
 
+pub fn first_stage(own: &History, other: &History) -> Rise {
+    match own.latest().number {
+        0 => other.reset,
+        latest => taken_across(own, latest, other),
+    }
+}
+
 /// The second stage holds what the rise before the latest took.
 pub fn second_stage(own: &History, other: &History) -> Rise {
     match own.latest().number {

@@ -2,13 +2,16 @@
 
 use std::io::Result;
 
+use crate::corners::{Corner, Corners};
 use crate::generator::{Generator, Plan};
+use crate::handed_over;
 use crate::library::{Call, Library, Reply};
 use crate::model::{Mode, Model};
 use crate::part::{Part, PARTS};
 use crate::pins::Pins;
 use crate::random::Random;
 use crate::scenes::Scene;
+use crate::trace::{refill, Step};
 
 /// What came of the calls, told at the end.
 #[derive(Default)]
@@ -25,6 +28,7 @@ pub struct Hostile<'a> {
     random: Random,
     state_bytes: u64,
     pub tally: Tally,
+    pub corners: Corners,
     /// The first wrong reply, in words.
     pub wrong: Option<String>,
 }
@@ -32,15 +36,28 @@ pub struct Hostile<'a> {
 impl<'a> Hostile<'a> {
     pub fn new(library: &'a mut Library, seed: u64) -> Result<Hostile<'a>> {
         let state_bytes = u64::from(library.state_bytes()?);
-        Ok(Hostile { library, random: Random::new(seed), state_bytes, tally: Tally::default(), wrong: None })
+        Ok(Hostile {
+            library,
+            random: Random::new(seed),
+            state_bytes,
+            tally: Tally::default(),
+            corners: Corners::default(),
+            wrong: None,
+        })
     }
 
     /// At least so many calls.
     pub fn run(&mut self, calls: u64) -> Result<()> {
-        while self.tally.calls < calls && self.wrong.is_none() {
+        for round in 0.. {
+            if self.tally.calls >= calls || self.wrong.is_some() {
+                break;
+            }
             self.lengths_of_power_up()?;
             self.part_numbers()?;
             self.session()?;
+            if round % 50 == 0 {
+                self.brinks()?;
+            }
         }
         Ok(())
     }
@@ -69,21 +86,100 @@ impl<'a> Hostile<'a> {
         }
     }
 
-    /// A trace from power-up with wrong calls in between, then what becomes of its last state when bytes are changed.
+    /// A trace from power-up with wrong calls in between, then what becomes of its last state in other hands and when
+    /// bytes are changed.
     fn session(&mut self) -> Result<()> {
-        let part = self.random.pick(&PARTS);
+        let (part, other) = self.random.pick(&[(PARTS[0], PARTS[1]), (PARTS[1], PARTS[0])]);
         let mode = self.random.pick(&[Mode::Standard, Mode::FallThrough]);
         let plan = Plan { mode, spoiled: 4, far: false, first: Scene::Verge { written: 1 } };
         let mut generator = Generator::new(plan, Random::new(self.random.draw()));
         let mut model = Model::power_up(part);
-        let mut memory = vec![0; part.depth as usize];
-        self.library.power_up(part, self.random.flip())?;
-        self.library.refill(self.random.bits())?;
+        let mut other_memory = self.fresh(other)?;
+        let mut memory = self.fresh(part)?;
         self.calls_between(&mut generator, &mut model, &mut memory)?;
         self.library.save_state()?;
+        for _ in 0..8 {
+            self.hand_over(&model, other, generator.next(&model), &mut other_memory)?;
+        }
         for _ in 0..24 {
             self.damaged_state(&mut generator, &model)?;
             self.library.restore_state()?;
+        }
+        Ok(())
+    }
+
+    /// The deeper part where its states begin to be too much for the other.
+    fn brink_session(&mut self, first: Scene, stride: usize, at_brink: fn(&Model, Part) -> bool) -> Result<()> {
+        let [other, part] = PARTS;
+        let plan = Plan { mode: Mode::Standard, spoiled: 0, far: true, first };
+        let mut generator = Generator::new(plan, Random::new(self.random.draw()));
+        let mut model = Model::power_up(part);
+        let mut other_memory = self.fresh(other)?;
+        let mut memory = self.fresh(part)?;
+        for _ in 0..300 {
+            let near = at_brink(&model, other);
+            if near {
+                self.library.save_state()?;
+                self.hand_over(&model, other, generator.next(&model), &mut other_memory)?;
+            }
+            self.right_calls(if near { 1 } else { stride }, &mut generator, &mut model, &mut memory)?;
+        }
+        Ok(())
+    }
+
+    fn brinks(&mut self) -> Result<()> {
+        let held = PARTS[0].depth;
+        self.brink_session(Scene::Hover { held }, 1_000, |model, other| model.held() + 2 >= other.depth)?;
+        self.brink_session(Scene::Loading { n: 3, m: 5 }, 1, |model, other| {
+            model.offsets.serial.len() as u32 + 1 >= other.serial_bits()
+        })
+    }
+
+    /// A part at power-up, and the memory it is given.
+    fn fresh(&mut self, part: Part) -> Result<Vec<u32>> {
+        let seed = self.random.bits();
+        let mut memory = vec![0; part.depth as usize];
+        refill(&mut memory, seed);
+        self.library.power_up(part, self.random.flip())?;
+        self.library.refill(seed)?;
+        Ok(memory)
+    }
+
+    fn right_calls(
+        &mut self,
+        calls: usize,
+        generator: &mut Generator,
+        model: &mut Model,
+        memory: &mut [u32],
+    ) -> Result<()> {
+        let (mut steps, mut outcomes) = (Vec::new(), Vec::new());
+        for _ in 0..calls {
+            let record = generator.next(model);
+            steps.push(Step::Record(record));
+            outcomes.push(model.sample(record, memory));
+        }
+        let difference = self.library.compare_piece(&steps, &outcomes)?;
+        self.judge(difference.is_none(), || format!("on the way to a brink: {difference:X?}"));
+        Ok(())
+    }
+
+    /// The saved state given to the other part, and put back.
+    fn hand_over(&mut self, model: &Model, other: Part, record: u32, memory: &mut [u32]) -> Result<()> {
+        let expected = Reply::told(handed_over::sampled(model, other, record, memory));
+        let call = self.right_call(other, record);
+        let reply = self.library.watched(&[call])?[0];
+        self.library.restore_state()?;
+        self.count(&reply);
+        self.judge(expected == reply, || {
+            format!("as the other part, {call:X?}: expected {expected:X?}, got {reply:X?}")
+        });
+        let reasons = handed_over::reasons(model, other);
+        match reasons.as_slice() {
+            [] if expected.number == 0 => self.corners.note_input(Corner::OtherPartTaken),
+            [reason] => self.corners.note_input(*reason),
+            several if several.contains(&Corner::OtherShown) => self.corners.note_input(Corner::OtherShown),
+            several if several.contains(&Corner::OtherReadCount) => self.corners.note_input(Corner::OtherReadCount),
+            _ => (),
         }
         Ok(())
     }

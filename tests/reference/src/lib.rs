@@ -4,6 +4,7 @@
 pub mod compare;
 pub mod corners;
 pub mod generator;
+pub mod handed_over;
 pub mod history;
 pub mod hostile;
 pub mod library;

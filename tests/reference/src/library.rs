@@ -198,7 +198,7 @@ impl Library {
     }
 
     /// Records up to a refill, and the first that comes out otherwise.
-    fn compare_piece(&mut self, steps: &[Step], outcomes: &[Outcome]) -> Result<Option<(usize, Reply)>> {
+    pub fn compare_piece(&mut self, steps: &[Step], outcomes: &[Outcome]) -> Result<Option<(usize, Reply)>> {
         let mut compared = 0;
         for steps in steps.chunks(PIECE) {
             let mut piece = Vec::with_capacity(steps.len());

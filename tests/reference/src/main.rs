@@ -47,14 +47,15 @@ fn try_library(settings: &Settings, seed: u64) -> (Finding, Tally) {
     finding.wrong = compare::library(&mut library, amount, seed, &mut finding.corners);
     let mut tally = Tally::default();
     if finding.wrong.is_none() {
-        (tally, finding.wrong) = try_hostile(&mut library, 60_000 * settings.amount as u64, seed);
+        (tally, finding.wrong) = try_hostile(&mut library, 60_000 * settings.amount as u64, seed, &mut finding.corners);
     }
     (finding, tally)
 }
 
-fn try_hostile(library: &mut Library, calls: u64, seed: u64) -> (Tally, Option<Counterexample>) {
+fn try_hostile(library: &mut Library, calls: u64, seed: u64, corners: &mut Corners) -> (Tally, Option<Counterexample>) {
     let mut hostile = Hostile::new(library, seed).expect("the driver answers");
     let ended = hostile.run(calls).err().map(|_| "the library's process ended".to_string());
+    corners.add(&hostile.corners);
     let wrong = hostile.wrong.or(ended);
     let wrong = wrong.map(|words| Counterexample { input: Vec::new(), words: format!("hostile call: {words}") });
     (hostile.tally, wrong)

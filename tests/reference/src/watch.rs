@@ -1,7 +1,7 @@
 //! Which corners a sample comes through, told from the model before and after it.
 
 use crate::corners::{Corner, Corners};
-use crate::history::{looks_past, taken_across, History};
+use crate::history::{first_stage, looks_past, taken_across, History};
 use crate::model::{Model, Outcome};
 use crate::offsets::Method;
 use crate::pins::Pins;
@@ -249,9 +249,7 @@ impl Corners {
                 self.note(model, Corner::RefusedPassed, words > WIDTH && allowed.contains(&(words % WIDTH)));
             }
             _ => {
-                let latest = model.writes.latest().number;
-                let crossed =
-                    latest > 0 && taken_across(&model.writes, latest, &model.reads).number >= model.retransmit;
+                let crossed = first_stage(&model.writes, &model.reads).number >= model.retransmit;
                 self.note(model, Corner::RefusedUnseenFirst, !crossed);
                 self.note(model, Corner::RefusedUnseenSecond, crossed);
             }
