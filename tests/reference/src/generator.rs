@@ -4,7 +4,8 @@ use crate::model::{Mode, Model};
 use crate::pins::Pins;
 use crate::random::Random;
 use crate::refusals::refusal;
-use crate::scenes::{calm, clocks, places_held, places_written, spoil, Pace, Scene, PACES, WRITING};
+use crate::scenes::{calm, clocks, Pace, Scene, PACES, WRITING};
+use crate::steering::{places_held, places_written, spoil};
 
 #[derive(Clone, Copy, Debug)]
 pub struct Plan {

@@ -1,11 +1,14 @@
 //! Which corners a sample comes through, told from the model before and after it.
 
+mod offsets;
+mod refused;
+mod resets;
+mod retransmits;
+
 use crate::corners::{Corner, Corners};
-use crate::history::{first_stage, looks_past, taken_across, History};
+use crate::history::{looks_past, taken_across, History};
 use crate::model::{Model, Outcome};
-use crate::offsets::Method;
 use crate::pins::Pins;
-use crate::refusals::{conditions, most_for_retransmit};
 
 const WIDTH: u64 = 65_536;
 
@@ -44,6 +47,7 @@ impl Corners {
     fn event(&mut self, before: &Model, pins: Pins, after: &Model) {
         let (write_rise, read_rise) = (before.write_clock_rises(pins), before.read_clock_rises(pins));
         let event = Event { before, pins, after, write_rise, read_rise };
+        self.note(after, Corner::Coincident, write_rise && read_rise);
         if write_rise {
             self.crossing(&event, &after.writes, &after.reads, [Corner::WriteSkewMissed, Corner::WriteMarkIgnored]);
             self.write_side(&event);
@@ -69,7 +73,6 @@ impl Corners {
         let own_last = own.numbered(latest.number - 1);
         self.note(model, corners[0], past);
         self.note(model, corners[1], !latest.skew_met && !past);
-        self.note(model, Corner::Coincident, together);
         self.note(model, Corner::MissedInCoincident, together && past);
         let theirs = other.latest_before(latest.sample);
         self.note(model, Corner::MissedAfterCoincident, past && theirs.sample == own_last.sample);
@@ -133,144 +136,6 @@ impl Corners {
         let replaced = settled && event.read_rise && before.offsets.n != n;
         self.note(after, Corner::AlmostEmptyOldOffset, replaced && pae != pae_now);
         self.note(after, Corner::AlmostFullOldOffset, before.offsets.m != m && paf != paf_now);
-    }
-
-    fn retransmit(&mut self, event: &Event) {
-        let (before, pins, after) = (event.before, event.pins, event.after);
-        self.note(after, Corner::Retransmit, true);
-        self.note(after, Corner::RetransmitOneWord, before.written() == 1);
-        self.note(
-            after,
-            Corner::RetransmitMostWords,
-            before.written() == most_for_retransmit(before.part, before.mode),
-        );
-        self.note(after, Corner::RetransmitNothingRead, before.read_count() == 0);
-        self.note(after, Corner::RetransmitUnseen, !before.retransmit_seen());
-        self.note(after, Corner::RetransmitCoincident, event.write_rise);
-        self.note(after, Corner::RetransmitUnderLoad, !pins.ld);
-        let again = [
-            Corner::RetransmitAtFirst,
-            Corner::RetransmitAtSecond,
-            Corner::RetransmitAtThird,
-            Corner::RetransmitAtFourth,
-        ];
-        for (since, corner) in (0..).zip(again) {
-            self.note(after, corner, before.rises_since_retransmit() == Some(since));
-        }
-    }
-
-    fn after_retransmit(&mut self, event: &Event) {
-        let (before, pins, after) = (event.before, event.pins, event.after);
-        let since = after.rises_since_retransmit();
-        let asked = pins.ld && !pins.ren;
-        let delivered = after.read_count() > before.read_count();
-        self.note(after, Corner::ReadInSetup, asked && matches!(since, Some(1 | 2)));
-        self.note(after, Corner::ReadySecond, since == Some(2) && after.ready());
-        self.note(after, Corner::DeliveredThird, since == Some(3) && delivered);
-        self.note(after, Corner::DeliveredHidden, delivered && after.offsets.shown.is_some());
-    }
-
-    fn loading(&mut self, event: &Event) {
-        let (pins, after) = (event.pins, event.after);
-        let loads = after.offsets.loads;
-        let loaded = loads > event.before.offsets.loads;
-        self.note(after, Corner::ParallelFirst, loaded && loads == 1);
-        self.note(after, Corner::ParallelSecond, loaded && loads == 2);
-        self.note(after, Corner::ParallelThird, loaded && loads == 3);
-        self.note(after, Corner::ParallelHighBits, loaded && pins.data >> after.part.offset_bits > 0);
-        let started = !event.before.offsets.serial.is_empty();
-        self.note(after, Corner::SerialComplete, started && after.offsets.serial.is_empty());
-        self.note(after, Corner::SerialBroken, started && pins.ld);
-    }
-
-    fn showing(&mut self, event: &Event) {
-        let (before, pins, after) = (event.before, event.pins, event.after);
-        let readings = after.offsets.readings;
-        let read = readings > before.offsets.readings;
-        self.note(after, Corner::ShowsFirst, read && readings % 2 == 1);
-        self.note(after, Corner::ShowsSecond, read && readings % 2 == 0);
-        self.note(after, Corner::SerialRead, read && !after.offsets.serial.is_empty());
-        self.note(after, Corner::ShownKept, before.offsets.shown.is_some() && !pins.ld && pins.ren);
-        self.note(after, Corner::ShownEnded, before.offsets.shown.is_some() && pins.ld);
-        let register = if readings % 2 == 1 { after.offsets.n } else { after.offsets.m };
-        self.note(after, Corner::ShownStale, after.offsets.shown.is_some_and(|shown| shown != register));
-    }
-
-    fn reset(&mut self, before: &Model, pins: Pins, after: &Model) {
-        let serial = !before.offsets.serial.is_empty();
-        let partial = pins.mrs;
-        self.just_seen = false;
-        self.note(after, Corner::ResetBoth, !pins.mrs && !pins.prs);
-        self.note(after, Corner::ResetPartial, partial && before.held() > 0);
-        self.note(after, Corner::ResetMaster, !partial && before.held() > 0);
-        self.note(after, Corner::ResetOtherMode, before.started() && before.mode != after.mode);
-        self.note(after, Corner::ResetClock, before.write_clock_rises(pins) || before.read_clock_rises(pins));
-        self.note(after, Corner::ResetInSetup, before.rises_since_retransmit().is_some_and(|since| since < 2));
-        self.note(after, Corner::ResetUnseen, partial && !before.retransmit_seen());
-        self.note(after, Corner::SerialMasterReset, !partial && serial);
-        self.note(after, Corner::SerialPartialReset, partial && serial);
-        self.note(after, Corner::ParallelPartialReset, partial && before.offsets.loads % 2 == 1);
-        self.note(after, Corner::ReadingPartialReset, partial && before.offsets.readings % 2 == 1);
-        self.note(after, Corner::ShownReset, partial && before.offsets.shown.is_some());
-    }
-
-    fn refused(&mut self, model: &Model, pins: Pins, number: u32) {
-        let write_rise = model.write_clock_rises(pins);
-        let read_rise = model.read_clock_rises(pins);
-        let words = model.written();
-        self.reasons(model, pins);
-        match number {
-            4 => {
-                self.note(model, Corner::RefusedSpare, !pins.in_reset());
-                self.note(model, Corner::RefusedSpareReset, pins.in_reset());
-            }
-            5 => {
-                self.note(model, Corner::RefusedBeforeReset, pins.prs);
-                self.note(model, Corner::RefusedBeforePartial, !pins.prs);
-            }
-            6 => {
-                self.note(model, Corner::RefusedWriteRise, write_rise && !read_rise);
-                self.note(model, Corner::RefusedReadRise, read_rise && !write_rise);
-                self.note(model, Corner::RefusedThree, pins.enables_low() == 3);
-            }
-            7 => {
-                self.note(model, Corner::RefusedSerial, model.offsets.method == Method::Serial);
-                self.note(model, Corner::RefusedParallel, model.offsets.method == Method::Parallel);
-            }
-            8 => {
-                self.note(model, Corner::RefusedRetransmitRead, !pins.ren);
-                self.note(model, Corner::RefusedRetransmitWrite, !pins.wen);
-                self.note(model, Corner::RefusedRetransmitLoad, !pins.ld);
-            }
-            9 => {
-                let allowed = 1..=most_for_retransmit(model.part, model.mode);
-                self.note(model, Corner::RefusedNothing, words == 0);
-                self.note(model, Corner::RefusedOneMore, words == allowed.end() + 1);
-                self.note(model, Corner::RefusedPassed, words > WIDTH && allowed.contains(&(words % WIDTH)));
-            }
-            _ => {
-                let crossed = first_stage(&model.writes, &model.reads).number >= model.retransmit;
-                self.note(model, Corner::RefusedUnseenFirst, !crossed);
-                self.note(model, Corner::RefusedUnseenSecond, crossed);
-            }
-        }
-    }
-
-    /// Samples for which two numbers hold, so that the order decides.
-    fn reasons(&mut self, model: &Model, pins: Pins) {
-        let held: Vec<u32> = conditions(model, pins).collect();
-        self.note(model, Corner::ReasonsSpare, held[0] == 4 && held.len() > 1);
-        let pairs = [
-            (6, 7, Corner::ReasonsLoad),
-            (6, 8, Corner::ReasonsLoadRetransmit),
-            (7, 8, Corner::ReasonsMethodRetransmit),
-            (7, 9, Corner::ReasonsMethodWords),
-            (8, 9, Corner::ReasonsRetransmitWords),
-            (8, 10, Corner::ReasonsRetransmitUnseen),
-        ];
-        for (first, second, corner) in pairs {
-            self.note(model, corner, held[0] == first && held[1..].contains(&second));
-        }
     }
 }
 
