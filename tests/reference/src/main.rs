@@ -47,7 +47,7 @@ fn try_library(settings: &Settings, seed: u64) -> (Finding, Tally) {
     finding.wrong = compare::library(&mut library, amount, seed, &mut finding.corners);
     let mut tally = Tally::default();
     if finding.wrong.is_none() {
-        (tally, finding.wrong) = try_hostile(&mut library, 60_000 * settings.amount as u64, seed, &mut finding.corners);
+        (tally, finding.wrong) = try_hostile(&mut library, 40_000 * settings.amount as u64, seed, &mut finding.corners);
     }
     (finding, tally)
 }
@@ -63,7 +63,7 @@ fn try_hostile(library: &mut Library, calls: u64, seed: u64, corners: &mut Corne
 
 fn try_program(settings: &Settings, seed: u64) -> Finding {
     let mut finding = Finding::default();
-    let amount = Amount { wide: 1, long: settings.amount, short: 16 * settings.amount };
+    let amount = Amount { wide: 1, long: settings.amount, short: 14 * settings.amount };
     finding.wrong = compare::program(&settings.trace, amount, seed, &mut finding.corners);
     finding
 }
