@@ -7,7 +7,7 @@
 #include "fifo.h"
 #include "guarded.h"
 
-enum { RECORD = 4, ANSWER = 3, EIGHT = 8, FILLED = 0xA5 };
+enum { RECORD = 4, ANSWER = 3, FILLED = 0xA5 };
 enum { STATE_MOVED = 1, MEMORY_MOVED = 2, ANSWER_MOVED = 4, RECORD_MOVED = 8, NOT_REPEATED = 16 };
 
 /* What one call is given besides the state and the memory, as it comes in the command. */
@@ -121,7 +121,7 @@ static void go_back(const struct call *call)
     exchange(&states, state_now(), state_bytes);
     exchange(&rooms, guarded_at(&rooms, ANSWER, against_front), ANSWER);
     if (word < memory->room)
-        exchange(memory, memory->start + word, EIGHT);
+        exchange(memory, memory->start + word, GUARDED_STEP);
 }
 
 /* One call made twice from the same bytes, everything around it looked at. */

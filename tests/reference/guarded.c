@@ -44,7 +44,7 @@ int guarded_moved(const struct guarded *buffer)
 size_t guarded_first_moved(const struct guarded *buffer)
 {
     size_t place = 0;
-    while (place < buffer->room && memcmp(buffer->start + place, buffer->copy + place, 8) == 0)
-        place += 8;
+    while (place < buffer->room && memcmp(buffer->start + place, buffer->copy + place, GUARDED_STEP) == 0)
+        place += GUARDED_STEP;
     return place;
 }

@@ -5,6 +5,9 @@
 #include <stddef.h>
 #include <stdint.h>
 
+/* Bytes that are looked at together. */
+enum { GUARDED_STEP = 8 };
+
 struct guarded {
     uint8_t *start, *copy;
     size_t room;
@@ -22,7 +25,7 @@ void guarded_keep(struct guarded *buffer);
 
 int guarded_moved(const struct guarded *buffer);
 
-/* Where the first eight bytes lie of which one has moved; the room where none has. */
+/* Where the first step lies of which a byte has moved; the room where none has. */
 size_t guarded_first_moved(const struct guarded *buffer);
 
 #endif
