@@ -35,11 +35,12 @@ impl Hostile<'_> {
     }
 
     pub(super) fn brinks(&mut self) -> Result<()> {
-        let held = PARTS[0].depth;
-        self.brink_session(Scene::Hover { held }, 1_000, |model, other| model.held() + 2 >= other.depth)?;
+        let depth = PARTS[0].depth;
+        self.brink_session(Scene::Hover { held: depth }, 1_000, |model, other| model.held() + 2 >= other.depth)?;
         self.brink_session(Scene::Loading { n: 3, m: 5 }, 1, |model, other| {
             model.offsets.serial.len() as u32 + 1 >= other.serial_bits()
-        })
+        })?;
+        self.brink_session(Scene::Loading { n: depth, m: depth - 1 }, 1, |model, _| model.offsets.shown.is_some())
     }
 
     fn right_calls(
