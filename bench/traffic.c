@@ -1,0 +1,75 @@
+#include "traffic.h"
+
+static const uint32_t MRS = 1u << 31;
+static const uint32_t WCLK = 1u << 29;
+static const uint32_t RCLK = 1u << 28;
+static const uint32_t WEN = 1u << 27;
+static const uint32_t REN = 1u << 26;
+static const uint32_t LD = 1u << 25;
+static const uint32_t OE = 1u << 21;
+static const uint32_t WRITE_SKEW_MET = 1u << 20;
+static const uint32_t READ_SKEW_MET = 1u << 19;
+static const uint32_t WORD = (1u << 18) - 1;
+
+// MRS, PRS, WEN, REN, LD, SEN and RT HIGH, FWFT/SI and OE LOW, both skews met.
+static const uint32_t IDLE = 0xCF980000;
+
+struct traffic traffic_start(uint64_t seed, uint32_t depth, enum traffic_fill fill)
+{
+    return (struct traffic){.random = seed * 2 + 1, .depth = depth, .fill = fill, .clocks = WCLK | RCLK};
+}
+
+static uint32_t draw(struct traffic *traffic)
+{
+    traffic->random = traffic->random * 6364136223846793005u + 1442695040888963407u;
+    return (uint32_t)(traffic->random >> 32);
+}
+
+// True in `parts` of sixteen draws.
+static int chance(struct traffic *traffic, uint32_t parts)
+{
+    return draw(traffic) % 16 < parts;
+}
+
+static void put_record(uint8_t *bytes, uint32_t record)
+{
+    bytes[0] = (uint8_t)(record >> 24);
+    bytes[1] = (uint8_t)(record >> 16);
+    bytes[2] = (uint8_t)(record >> 8);
+    bytes[3] = (uint8_t)record;
+}
+
+size_t traffic_opening_records(const struct traffic *traffic)
+{
+    return traffic->fill == TRAFFIC_FULL ? 1 + 2 * (size_t)traffic->depth : 1;
+}
+
+void traffic_put_opening(const struct traffic *traffic, uint8_t *trace)
+{
+    put_record(trace, (IDLE | WCLK | RCLK) & ~(MRS | LD));
+    for (size_t i = 1; i < traffic_opening_records(traffic); i++)
+        put_record(trace + 4 * i, ((IDLE | RCLK) & ~WEN) | (i % 2 == 0 ? WCLK : 0) | (uint32_t)i);
+}
+
+static int filling(const struct traffic *traffic)
+{
+    return traffic->fill == TRAFFIC_FULL
+        || (traffic->fill == TRAFFIC_SWEPT && traffic->made / (5 * traffic->depth) % 2 == 0);
+}
+
+static uint32_t next_record(struct traffic *traffic)
+{
+    uint32_t write_parts = filling(traffic) ? 15 : 6;
+    uint32_t read_parts = filling(traffic) ? 6 : 15;
+    traffic->clocks ^= (chance(traffic, 12) ? WCLK : 0) | (chance(traffic, 12) ? RCLK : 0);
+    traffic->made++;
+    uint32_t low = (chance(traffic, write_parts) ? WEN : 0) | (chance(traffic, read_parts) ? REN : 0)
+        | (chance(traffic, 2) ? WRITE_SKEW_MET : 0) | (chance(traffic, 2) ? READ_SKEW_MET : 0);
+    return (IDLE & ~low) | traffic->clocks | (chance(traffic, 1) ? OE : 0) | (draw(traffic) & WORD);
+}
+
+void traffic_put(struct traffic *traffic, uint8_t *trace, size_t records)
+{
+    for (size_t i = 0; i < records; i++)
+        put_record(trace + 4 * i, next_record(traffic));
+}
