@@ -7,7 +7,7 @@
 #include <stdlib.h>
 
 enum { RATIO_RECORDS = 1000000, LONGEST = 10000000 };
-enum { PARTS = 2, FILLS = 3, COLUMNS = PARTS * FILLS, LENGTHS = 4, TABLES = 2, ROWS = 4 };
+enum { PARTS = 2, FILLS = 3, COLUMNS = PARTS * FILLS, LENGTHS = 4, TABLES = 2 };
 
 static const uint32_t numbers[PARTS] = {255, 265};
 static const char *const fills[FILLS] = {[TRAFFIC_EMPTY] = "empty", [TRAFFIC_SWEPT] = "swept", [TRAFFIC_FULL] = "full"};
@@ -32,29 +32,33 @@ static void print_row(const char *name, struct row row, const char *goal)
     printf("   %s\n", goal);
 }
 
-static void print_ratios(struct job *job, const struct row *reference)
+static void measure(struct job *job, struct row cost[MODELS])
 {
-    const struct model models[ROWS] = {PLAIN_MODEL, PLAIN_RUN, C_CALL, RUN};
-    struct row cost[ROWS];
     for (int part = 0; part < PARTS; part++) {
         size_t opening = put_trace(job, numbers[part], TRAFFIC_SWEPT, RATIO_RECORDS);
-        compare_answers(job, models, ROWS, opening + RATIO_RECORDS);
-        for (int i = 0; i < ROWS; i++)
+        compare_answers(job, opening + RATIO_RECORDS);
+        for (int i = 0; i < MODELS; i++)
             cost[i].of[part] = nanoseconds(&models[i], job, opening, RATIO_RECORDS);
     }
-    printf("%d records, memory swept from empty to full and back\n%-28s%9u%9u\n", RATIO_RECORDS, "", numbers[0],
+}
+
+static void print_ratios(const struct row cost[MODELS])
+{
+    printf("%d records, memory swept from empty to full and back\n%-28s%9u%9u\n", RATIO_RECORDS, "part", numbers[0],
            numbers[1]);
-    for (int i = 0; i < ROWS; i++)
+    for (int i = 0; i < MODELS; i++)
         print_row(models[i].name, cost[i], "ns a record");
-    print_row("C call / plain C model", ratio(cost[2], cost[0]), "goal 1.00");
-    print_row("run / plain C model", ratio(cost[3], cost[0]), "goal 0.50");
-    print_row("run / plain C run", ratio(cost[3], cost[1]), "");
-    if (reference != NULL) {
-        print_row("Rust reference", *reference, "ns a record");
-        print_row("plain C model / Rust", ratio(cost[0], *reference), "");
-        print_row("C call / Rust reference", ratio(cost[2], *reference), "");
-        print_row("run / Rust reference", ratio(cost[3], *reference), "");
-    }
+    print_row("C call / plain C model", ratio(cost[C_CALL], cost[PLAIN_MODEL]), "goal 1.00");
+    print_row("run / plain C model", ratio(cost[RUN], cost[PLAIN_MODEL]), "goal 0.50");
+    print_row("run / plain C run", ratio(cost[RUN], cost[PLAIN_RUN]), "");
+}
+
+static void print_reference_ratios(const struct row cost[MODELS], struct row reference)
+{
+    print_row("Rust reference", reference, "ns a record");
+    print_row("plain C model / Rust", ratio(cost[PLAIN_MODEL], reference), "");
+    print_row("C call / Rust reference", ratio(cost[C_CALL], reference), "");
+    print_row("run / Rust reference", ratio(cost[RUN], reference), "");
 }
 
 static void print_table(const char *name, double cells[LENGTHS][COLUMNS])
@@ -72,25 +76,26 @@ static void print_table(const char *name, double cells[LENGTHS][COLUMNS])
 
 static void print_tables(struct job *job)
 {
-    const struct model *models[TABLES] = {&C_CALL, &RUN};
+    const int timed[TABLES] = {C_CALL, RUN};
     double cells[TABLES][LENGTHS][COLUMNS];
     for (int column = 0; column < COLUMNS; column++) {
         size_t opening = put_trace(job, numbers[column / FILLS], (enum traffic_fill)(column % FILLS), LONGEST);
         for (int length = 0; length < LENGTHS; length++)
             for (int i = 0; i < TABLES; i++)
-                cells[i][length][column] = nanoseconds(models[i], job, opening, lengths[length]);
+                cells[i][length][column] = nanoseconds(&models[timed[i]], job, opening, lengths[length]);
     }
     for (int i = 0; i < TABLES; i++)
-        print_table(models[i]->name, cells[i]);
+        print_table(models[timed[i]].name, cells[i]);
 }
 
 int main(int count, char **arguments)
 {
-    struct row reference;
-    for (int part = 0; count == 1 + PARTS && part < PARTS; part++)
-        reference.of[part] = strtod(arguments[1 + part], NULL);
+    struct row cost[MODELS];
     struct job job = new_job(LONGEST);
-    print_ratios(&job, count == 1 + PARTS ? &reference : NULL);
+    measure(&job, cost);
+    print_ratios(cost);
+    if (count == 1 + PARTS)
+        print_reference_ratios(cost, (struct row){{strtod(arguments[1], NULL), strtod(arguments[2], NULL)}});
     print_tables(&job);
     return 0;
 }

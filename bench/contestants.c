@@ -41,7 +41,9 @@ static size_t work_by_run(const struct job *job, size_t records)
     return fifo_run(job->number, job->trace, 4 * records, job->words, job->depth, job->answers, 3 * records);
 }
 
-const struct model PLAIN_MODEL = {"plain C model", work_by_plain_sample};
-const struct model PLAIN_RUN = {"plain C run", work_by_plain_run};
-const struct model C_CALL = {"C call", work_by_c_call};
-const struct model RUN = {"run", work_by_run};
+const struct model models[MODELS] = {
+    [PLAIN_MODEL] = {"plain C model", work_by_plain_sample},
+    [PLAIN_RUN] = {"plain C run", work_by_plain_run},
+    [C_CALL] = {"C call", work_by_c_call},
+    [RUN] = {"run", work_by_run},
+};

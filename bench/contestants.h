@@ -21,9 +21,7 @@ struct model {
     size_t (*work)(const struct job *job, size_t records);
 };
 
-extern const struct model PLAIN_MODEL;
-extern const struct model PLAIN_RUN;
-extern const struct model C_CALL;
-extern const struct model RUN;
+enum { PLAIN_MODEL, PLAIN_RUN, C_CALL, RUN, MODELS };
+extern const struct model models[MODELS];
 
 #endif

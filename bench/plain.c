@@ -1,21 +1,7 @@
-// One sample of paper 01; the headings cited are the paper's.
-#include "plain.h"
-
-static const uint32_t MRS = 1u << 31;
-static const uint32_t PRS = 1u << 30;
-static const uint32_t WCLK = 1u << 29;
-static const uint32_t RCLK = 1u << 28;
-static const uint32_t WEN = 1u << 27;
-static const uint32_t REN = 1u << 26;
-static const uint32_t LD = 1u << 25;
-static const uint32_t SEN = 1u << 24;
-static const uint32_t RT = 1u << 23;
-static const uint32_t FWFT_SI = 1u << 22;
-static const uint32_t OE = 1u << 21;
-static const uint32_t WRITE_SKEW_MET = 1u << 20;
-static const uint32_t READ_SKEW_MET = 1u << 19;
-static const uint32_t SPARE = 1u << 18;
-static const uint32_t WORD = (1u << 18) - 1;
+// One sample of paper 01. What the headers hold is only used here; the compiler sees all of a sample at once.
+#include "plain_offsets.h"
+#include "plain_refusals.h"
+#include "plain_sides.h"
 
 static const struct plain_part PART_255 = {.depth = 8192, .offset_bits = 13};
 static const struct plain_part PART_265 = {.depth = 16384, .offset_bits = 14};
@@ -47,90 +33,6 @@ uint32_t plain_record(const uint8_t *bytes)
     return (uint32_t)bytes[0] << 24 | (uint32_t)bytes[1] << 16 | (uint32_t)bytes[2] << 8 | bytes[3];
 }
 
-static bool low(uint32_t record, uint32_t pin)
-{
-    return (record & pin) == 0;
-}
-
-// Counts are taken round their width of 16 bits.
-static uint32_t difference(uint16_t later, uint16_t earlier)
-{
-    return (uint16_t)(later - earlier);
-}
-
-static bool full(const struct plain_part *part, const struct plain_write_side *write)
-{
-    return difference(write->count, write->stages.second) == part->depth;
-}
-
-// EF HIGH or OR LOW.
-static bool ready(const struct plain_state *state)
-{
-    const struct plain_read_side *read = &state->read;
-    if (state->mode == PLAIN_FWFT)
-        return read->untaken;
-    return read->setup == PLAIN_OVER && read->stages.second != read->count;
-}
-
-// Refusal 3: "What is turned away".
-
-static bool widths_hold(const struct plain_part *part, const struct plain_state *state)
-{
-    const struct plain_offsets *offsets = &state->offsets;
-    uint32_t limit = 1u << part->offset_bits;
-    return offsets->value[PLAIN_N] < limit && offsets->value[PLAIN_M] < limit
-        && (!offsets->showing || offsets->shown < limit) && state->read.output <= WORD
-        && offsets->serial_count < 2 * part->offset_bits && offsets->serial_bits >> offsets->serial_count == 0;
-}
-
-static bool counts_hold(const struct plain_part *part, const struct plain_state *state)
-{
-    uint16_t count = state->write.count;
-    uint32_t held = difference(count, state->read.count);
-    uint32_t unseen = difference(count, state->read.stages.second);
-    return held <= part->depth && unseen <= part->depth && unseen <= held
-        && difference(count, state->read.stages.first) <= part->depth
-        && difference(count, state->write.stages.first) <= part->depth
-        && difference(count, state->write.stages.second) <= part->depth;
-}
-
-// Refusals 5 to 10: "What is turned away".
-
-static uint32_t loading_refusal(const struct plain_offsets *offsets, uint32_t record, uint32_t rises)
-{
-    if (low(record, WEN) + low(record, REN) + low(record, SEN) > 1)
-        return 6;
-    if ((rises & WCLK) && low(record, offsets->method == PLAIN_SERIAL ? WEN : SEN))
-        return 7;
-    return 0;
-}
-
-static uint32_t retransmit_refusal(const struct plain_part *part, const struct plain_state *state, uint32_t record)
-{
-    if (low(record, REN) || low(record, WEN))
-        return 8;
-    uint32_t most = part->depth - (state->mode == PLAIN_FWFT ? 1 : 2);
-    uint32_t accepted = state->write.count;
-    if (state->write.passed_width || accepted == 0 || accepted > most)
-        return 9;
-    return 0;
-}
-
-static uint32_t rise_refusal(const struct plain_part *part, const struct plain_state *state, uint32_t record,
-                             uint32_t rises)
-{
-    uint32_t refusal = 0;
-    if (low(record, LD))
-        refusal = loading_refusal(&state->offsets, record, rises);
-    if (refusal == 0 && (rises & RCLK) && low(record, RT))
-        refusal = retransmit_refusal(part, state, record);
-    if (refusal == 0 && (rises & WCLK) && !low(record, LD) && low(record, WEN) && state->write.view != PLAIN_SEEN)
-        refusal = 10;
-    return refusal;
-}
-
-// "Resets"
-
 static void reset_master(struct plain_state *state, uint32_t record)
 {
     bool serial = !low(record, LD);
@@ -150,148 +52,25 @@ static void reset_both_sides(struct plain_state *state)
     state->offsets.showing = false;
 }
 
-// "The two sides"
-
-static void move_stages(struct plain_stages *stages, bool skew_met, uint16_t other_count)
-{
-    stages->second = stages->first;
-    stages->first = !skew_met && stages->other_rose ? stages->before_latest : other_count;
-    stages->other_rose = false;
-}
-
-static void note_rise_of_other(struct plain_stages *stages, uint16_t count_before)
-{
-    stages->other_rose = true;
-    stages->before_latest = count_before;
-}
-
-// "Retransmit": a count from before the retransmit's own rise does not show it.
-static void see_retransmit(struct plain_write_side *write, bool skew_met, bool retransmit_is_latest)
-{
-    if (write->view == PLAIN_TAKEN)
-        write->view = PLAIN_SEEN;
-    else if (write->view == PLAIN_UNSEEN && !(retransmit_is_latest && !skew_met && write->stages.other_rose))
-        write->view = PLAIN_TAKEN;
-}
-
-static void accept(const struct plain_part *part, struct plain_write_side *write, uint32_t *memory, uint32_t word)
-{
-    memory[write->count & (part->depth - 1)] = word;
-    write->count++;
-    if (write->count == 0)
-        write->passed_width = true;
-}
-
-static void rise_write_side(const struct plain_part *part, struct plain_state *state, uint32_t *memory,
-                            uint32_t record, const struct plain_read_side *read_before)
-{
-    struct plain_write_side *write = &state->write;
-    bool skew_met = !low(record, WRITE_SKEW_MET);
-    if (!low(record, LD) && low(record, WEN) && !full(part, write))
-        accept(part, write, memory, record & WORD);
-    see_retransmit(write, skew_met, read_before->setup == PLAIN_TWO_MORE);
-    move_stages(&write->stages, skew_met, read_before->count);
-    write->almost_full
-        = difference(write->count, write->stages.second) >= part->depth - state->offsets.value[PLAIN_M];
-}
-
-static void deliver(const struct plain_part *part, struct plain_read_side *read, const uint32_t *memory)
-{
-    read->output = memory[read->count & (part->depth - 1)] & WORD;
-    read->count++;
-}
-
-static void retransmit(struct plain_read_side *read)
-{
-    read->count = 0;
-    read->untaken = false;
-    read->setup = PLAIN_TWO_MORE;
-}
-
-static void read_words(const struct plain_part *part, struct plain_state *state, const uint32_t *memory, bool asked)
-{
-    struct plain_read_side *read = &state->read;
-    bool taken = asked && ready(state);
-    if (state->mode == PLAIN_STANDARD) {
-        if (taken)
-            deliver(part, read, memory);
-        return;
-    }
-    if (taken)
-        read->untaken = false;
-    if (!read->untaken && read->setup == PLAIN_OVER && read->stages.second != read->count) {
-        deliver(part, read, memory);
-        read->untaken = true;
-    }
-}
-
-static void rise_read_side(const struct plain_part *part, struct plain_state *state, const uint32_t *memory,
-                           uint32_t record)
-{
-    struct plain_read_side *read = &state->read;
-    if (low(record, RT)) {
-        retransmit(read);
-    } else {
-        read_words(part, state, memory, !low(record, LD) && low(record, REN));
-        if (read->setup != PLAIN_OVER)
-            read->setup--;
-    }
-    move_stages(&read->stages, !low(record, READ_SKEW_MET), state->write.count);
-    if (read->setup == PLAIN_OVER)
-        read->almost_empty = difference(read->stages.second, read->count) <= state->offsets.value[PLAIN_N];
-}
-
-// "Offsets"
-
-static void show_offset(struct plain_offsets *offsets, uint32_t record)
-{
-    offsets->showing = low(record, LD) && (offsets->showing || low(record, REN));
-    if (low(record, LD) && low(record, REN)) {
-        offsets->shown = offsets->value[offsets->next_read];
-        offsets->next_read = offsets->next_read == PLAIN_N ? PLAIN_M : PLAIN_N;
-    }
-}
-
-static void load_serial(const struct plain_part *part, struct plain_offsets *offsets, uint32_t bit)
-{
-    offsets->serial_bits |= bit << offsets->serial_count;
-    offsets->serial_count++;
-    if (offsets->serial_count == 2 * part->offset_bits) {
-        offsets->value[PLAIN_N] = offsets->serial_bits & (part->depth - 1);
-        offsets->value[PLAIN_M] = (uint16_t)(offsets->serial_bits >> part->offset_bits);
-        offsets->serial_bits = 0;
-        offsets->serial_count = 0;
-    }
-}
-
-static void load_offsets(const struct plain_part *part, struct plain_offsets *offsets, uint32_t record)
-{
-    if (low(record, WEN)) {
-        offsets->value[offsets->next_loaded] = record & (part->depth - 1);
-        offsets->next_loaded = offsets->next_loaded == PLAIN_N ? PLAIN_M : PLAIN_N;
-    } else if (low(record, SEN)) {
-        load_serial(part, offsets, low(record, FWFT_SI) ? 0 : 1);
-    }
-}
-
 // The read side goes first and fetches the word that a write in the same sample may replace; neither sees the other's rise.
 static void rise(const struct plain_part *part, struct plain_state *state, uint32_t *memory, uint32_t record,
                  uint32_t rises)
 {
-    uint16_t write_before = state->write.count;
-    struct plain_read_side read_before = state->read;
+    uint16_t write_count = state->write.count;
+    uint16_t read_count = state->read.count;
+    bool retransmit_is_latest = state->read.setup == PLAIN_TWO_MORE;
     if (rises & RCLK) {
         rise_read_side(part, state, memory, record);
         show_offset(&state->offsets, record);
     }
     if (rises & WCLK) {
-        rise_write_side(part, state, memory, record, &read_before);
-        note_rise_of_other(&state->read.stages, write_before);
+        rise_write_side(part, state, memory, record, read_count, retransmit_is_latest);
+        note_rise_of_other(&state->read.stages, write_count);
         if (low(record, LD))
             load_offsets(part, &state->offsets, record);
     }
     if (rises & RCLK) {
-        note_rise_of_other(&state->write.stages, read_before.count);
+        note_rise_of_other(&state->write.stages, read_count);
         if (low(record, RT))
             state->write.view = PLAIN_UNSEEN;
     }

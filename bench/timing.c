@@ -14,7 +14,7 @@ static void *lend(size_t bytes)
 {
     void *room = calloc(bytes, 1);
     if (room == NULL) {
-        fputs("calls: no memory\n", stderr);
+        fputs("bench: no memory\n", stderr);
         exit(1);
     }
     return room;
@@ -47,21 +47,21 @@ static void work(const struct model *model, const struct job *job, size_t record
 {
     size_t taken = model->work(job, records);
     if (taken != records) {
-        fprintf(stderr, "calls: %s refuses record %zu of legal traffic\n", model->name, taken);
+        fprintf(stderr, "bench: %s refuses record %zu of legal traffic\n", model->name, taken);
         exit(1);
     }
 }
 
-void compare_answers(const struct job *job, const struct model *models, size_t count, size_t records)
+void compare_answers(const struct job *job, size_t records)
 {
     uint8_t *expected = lend(3 * records);
     work(&models[0], job, records);
     memcpy(expected, job->answers, 3 * records);
-    for (size_t i = 1; i < count; i++) {
+    for (int i = 1; i < MODELS; i++) {
         memset(job->answers, 0, 3 * records);
         work(&models[i], job, records);
         if (memcmp(expected, job->answers, 3 * records) != 0) {
-            fprintf(stderr, "calls: %s and %s give different answers\n", models[i].name, models[0].name);
+            fprintf(stderr, "bench: %s and %s give different answers\n", models[i].name, models[0].name);
             exit(1);
         }
     }

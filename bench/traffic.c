@@ -1,15 +1,6 @@
 #include "traffic.h"
 
-static const uint32_t MRS = 1u << 31;
-static const uint32_t WCLK = 1u << 29;
-static const uint32_t RCLK = 1u << 28;
-static const uint32_t WEN = 1u << 27;
-static const uint32_t REN = 1u << 26;
-static const uint32_t LD = 1u << 25;
-static const uint32_t OE = 1u << 21;
-static const uint32_t WRITE_SKEW_MET = 1u << 20;
-static const uint32_t READ_SKEW_MET = 1u << 19;
-static const uint32_t WORD = (1u << 18) - 1;
+#include "plain_pins.h"
 
 // MRS, PRS, WEN, REN, LD, SEN and RT HIGH, FWFT/SI and OE LOW, both skews met.
 static const uint32_t IDLE = 0xCF980000;
