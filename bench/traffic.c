@@ -45,18 +45,29 @@ void traffic_put_opening(const struct traffic *traffic, uint8_t *trace)
 static int filling(const struct traffic *traffic)
 {
     return traffic->fill == TRAFFIC_FULL
-        || (traffic->fill == TRAFFIC_SWEPT && traffic->made / (5 * traffic->depth) % 2 == 0);
+        || (traffic->fill == TRAFFIC_SWEPT && traffic->made / (8 * traffic->depth) % 2 == 0);
+}
+
+static void start_burst(struct traffic *traffic)
+{
+    uint32_t write_parts = filling(traffic) ? 15 : 6;
+    uint32_t read_parts = filling(traffic) ? 6 : 15;
+    traffic->burst_left = 32 + draw(traffic) % 256;
+    traffic->write_pace = 1 + draw(traffic) % 3;
+    traffic->read_pace = 1 + draw(traffic) % 3;
+    traffic->enables_low = (chance(traffic, write_parts) ? WEN : 0) | (chance(traffic, read_parts) ? REN : 0);
 }
 
 static uint32_t next_record(struct traffic *traffic)
 {
-    uint32_t write_parts = filling(traffic) ? 15 : 6;
-    uint32_t read_parts = filling(traffic) ? 6 : 15;
-    traffic->clocks ^= (chance(traffic, 12) ? WCLK : 0) | (chance(traffic, 12) ? RCLK : 0);
+    if (traffic->burst_left == 0)
+        start_burst(traffic);
+    traffic->burst_left--;
     traffic->made++;
-    uint32_t low = (chance(traffic, write_parts) ? WEN : 0) | (chance(traffic, read_parts) ? REN : 0)
-        | (chance(traffic, 2) ? WRITE_SKEW_MET : 0) | (chance(traffic, 2) ? READ_SKEW_MET : 0);
-    return (IDLE & ~low) | traffic->clocks | (chance(traffic, 1) ? OE : 0) | (draw(traffic) & WORD);
+    traffic->clocks ^= (traffic->made % traffic->write_pace == 0 ? WCLK : 0)
+        | (traffic->made % traffic->read_pace == 0 ? RCLK : 0);
+    uint32_t skews_missed = (chance(traffic, 1) ? WRITE_SKEW_MET : 0) | (chance(traffic, 1) ? READ_SKEW_MET : 0);
+    return (IDLE & ~traffic->enables_low & ~skews_missed) | traffic->clocks | (draw(traffic) & WORD);
 }
 
 void traffic_put(struct traffic *traffic, uint8_t *trace, size_t records)

@@ -1,4 +1,4 @@
-// Seeded legal traffic for timing: both clocks at their own pace, words written and read.
+// Seeded legal traffic for timing: bursts in which each clock keeps its pace and the enables their levels.
 #ifndef TRAFFIC_H
 #define TRAFFIC_H
 
@@ -12,8 +12,12 @@ struct traffic {
     uint64_t random;
     uint32_t depth;
     enum traffic_fill fill;
-    uint32_t clocks;
     uint64_t made;
+    uint32_t burst_left;
+    uint32_t write_pace; // in records between two changes of the clock
+    uint32_t read_pace;
+    uint32_t enables_low;
+    uint32_t clocks;
 };
 
 struct traffic traffic_start(uint64_t seed, uint32_t depth, enum traffic_fill fill);
