@@ -1,11 +1,10 @@
 //! What the reference takes for a record of the trace on standard input, in nanoseconds.
 
-use std::io::{self, Read};
 use std::process::ExitCode;
 use std::time::Instant;
 
 use reference::model::{Model, Outcome};
-use reference::part::{Part, PARTS};
+use reference::part::Part;
 
 const REPEATS: usize = 3;
 
@@ -19,14 +18,10 @@ fn seconds(part: Part, records: &[u32]) -> f64 {
 }
 
 fn main() -> ExitCode {
-    let mut input = Vec::new();
-    io::stdin().read_to_end(&mut input).expect("a trace on standard input");
-    let Some(part) = PARTS.into_iter().find(|part| input.starts_with(&part.number.to_be_bytes())) else {
+    let Some((part, records)) = bench::read() else {
         eprintln!("time: a trace of a known part comes on standard input");
         return ExitCode::FAILURE;
     };
-    let bytes = input[2..].chunks_exact(4);
-    let records: Vec<u32> = bytes.map(|record| u32::from_be_bytes(record.try_into().expect("four bytes"))).collect();
     let smallest = (0..REPEATS).map(|_| seconds(part, &records)).fold(f64::INFINITY, f64::min);
     println!("{:.1}", 1e9 * smallest / records.len() as f64);
     ExitCode::SUCCESS
