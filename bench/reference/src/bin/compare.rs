@@ -25,7 +25,7 @@ fn main() -> ExitCode {
     };
     let mut corners = Corners::default();
     if let Some(counterexample) = compare::program(&launch, AMOUNT, seed, &mut corners) {
-        eprintln!("DIFFERENCE {counterexample}");
+        eprintln!("DIFFERENCE {}", counterexample.words);
         return ExitCode::FAILURE;
     }
     println!("plain C model: seed {seed}, {} samples, as the Rust reference says", corners.samples);
