@@ -1,4 +1,4 @@
-// One sample of paper 01. What the headers hold is only used here; the compiler sees all of a sample at once.
+// One sample of paper 01. Its parts are headers, so that the compiler sees all of a sample at once.
 #include "plain_offsets.h"
 #include "plain_refusals.h"
 #include "plain_sides.h"
@@ -52,7 +52,8 @@ static void reset_both_sides(struct plain_state *state)
     state->offsets.showing = false;
 }
 
-// The read side goes first and fetches the word that a write in the same sample may replace; neither sees the other's rise.
+// The read side goes first, since a write in the same sample may replace the word that it fetches. Neither side sees the
+// other's rise.
 static void rise(const struct plain_part *part, struct plain_state *state, uint32_t *memory, uint32_t record,
                  uint32_t rises)
 {
