@@ -7,13 +7,14 @@
 
 int main(int count, char **arguments)
 {
-    if (count != 4) {
+    uint32_t number = count == 4 ? (uint32_t)strtoul(arguments[1], NULL, 10) : 0;
+    const struct plain_part *part = plain_part(number);
+    if (part == NULL) {
         fputs("usage: put_traffic PART RECORDS SEED\n", stderr);
         return 2;
     }
-    uint32_t number = (uint32_t)strtoul(arguments[1], NULL, 10);
     size_t records = strtoul(arguments[2], NULL, 10);
-    struct traffic traffic = traffic_start(strtoul(arguments[3], NULL, 10), plain_part(number)->depth, TRAFFIC_SWEPT);
+    struct traffic traffic = traffic_start(strtoul(arguments[3], NULL, 10), part->depth, TRAFFIC_SWEPT);
     uint8_t bytes[4] = {(uint8_t)(number >> 8), (uint8_t)number};
     fwrite(bytes, 1, 2, stdout);
     traffic_put_opening(&traffic, bytes);
