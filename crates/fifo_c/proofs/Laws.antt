@@ -136,8 +136,18 @@ module _ (number : ℕ) {looked : Lookup} (e : looked ≡ partOf number) where
 module _ (state : List ℕ) where
   pub powers-up : {s : State} {state′ : List ℕ} → length state ≡ stateBytes → s ≡ poweredUp → state′ ≡ spelling s → PowersUp state 0 state′
   unfolding powered
-  powers-up {s = s} room made spelled = let fits = eq-eqb (length state) stateBytes room in record { result = simp fits; spelled = spelled ∙ ap spelling made ∙ simp fits }
+  powers-up room made spelled =
+      let fits = eq-eqb (length state) stateBytes room in
+      let code : 0 ≡ powered state .code = simp fits in
+      let bytes = spelled ∙ ap spelling made in
+      let same : spelling poweredUp ≡ powered state .state = simp fits in
+      let after = bytes ∙ same in
+      search needs
 
   pub powers-up-refused : (length state ≡ stateBytes → ⊥) → PowersUp state 2 state
   unfolding powered
-  powers-up-refused short = let fails = ne-eqb (length state) stateBytes short in record { result = simp fails; spelled = simp fails }
+  powers-up-refused short =
+      let fails = ne-eqb (length state) stateBytes short in
+      let code : 2 ≡ powered state .code = simp fails in
+      let same : state ≡ powered state .state = simp fails in
+      search needs
