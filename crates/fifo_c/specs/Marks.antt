@@ -30,8 +30,8 @@ abbrev pub levelOf : ℕ → Bool
 levelOf marks = eqb (marks % 2) 1
 
 -- the lowest digit of four values
-abbrev pub fourthOf : ℕ → ℕ
-fourthOf marks = marks % 4
+abbrev pub digitOfFour : ℕ → ℕ
+digitOfFour marks = marks % 4
 
 abbrev pub viewDigit : View → ℕ
 viewDigit Unseen = 0
@@ -59,9 +59,6 @@ modeOf digit = cond (eqb digit 0) Standard (Fwft (eqb digit 2))
 abbrev pub isSerial : Method → Bool
 isSerial Parallel = false
 isSerial Serial = true
-
-abbrev pub methodOf : Bool → Method
-methodOf serial = cond serial Serial Parallel
 
 abbrev pub isM : Next → Bool
 isM N = false

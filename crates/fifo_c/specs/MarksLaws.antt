@@ -10,6 +10,7 @@ use Rattle.offsets.specs.declared.registers.Method.the-variants.{Parallel, Seri
 use Rattle.offsets.specs.declared.registers.Next.{Next}
 use Rattle.offsets.specs.declared.registers.Next.the-variants.{N, M}
 use Rattle.chip.specs.declared.state.State.{State}
+use Rattle.offsets.specs.Registers.{methodOf}
 use Rattle.sides.specs.declared.read.ReadSide.{ReadSide}
 use Rattle.sides.specs.declared.write.WriteSide.{WriteSide}
 use Rattle.sides.specs.declared.read.Mode.{Mode}
@@ -22,7 +23,7 @@ use Rattle.views.specs.declared.stages.ReadRise.{ReadRise}
 use Rattle.views.specs.declared.stages.ReadRise.the-variants as readRise
 use Rattle.views.specs.declared.stages.WriteRise.{WriteRise}
 use Rattle.views.specs.declared.stages.WriteRise.the-variants as writeRise
-use Rattle.fifo_c.specs.Marks.{digitOf, fourthOf, isM, isSerial, levelOf, methodOf, modeDigit, modeOf, nextOf, otherMarks, readBefore, readMarks, readRiseOf, readRose, setupDigit, setupOf, shownOffset, showsOf, showsOffset, viewDigit, viewOf, writeBefore, writeMarks, writeRiseOf, writeRose}
+use Rattle.fifo_c.specs.Marks.{digitOf, digitOfFour, isM, isSerial, levelOf, modeDigit, modeOf, nextOf, otherMarks, readBefore, readMarks, readRiseOf, readRose, setupDigit, setupOf, shownOffset, showsOf, showsOffset, viewDigit, viewOf, writeBefore, writeMarks, writeRiseOf, writeRose}
 use Rattle.fifo_c.specs.Spelling.{highOf, lowOf, offsetsOf, paired, readOf, readingOf, writeOf}
 
 -- a digit by itself
@@ -98,7 +99,7 @@ write-again w marks above e first before =
     let v = view-small (w .view) in
     let rose : levelOf (marks / 4) ≡ readRose (w .latest) = level-again (readRose (w .latest)) (marks / 4) (omega arith) in
     let low : lowOf (paired (w .second .0) (readBefore (w .latest))) ≡ readBefore (w .latest) = omega arith in
-    let view : fourthOf (marks / 16) ≡ viewDigit (w .view) = omega arith in
+    let view : digitOfFour (marks / 16) ≡ viewDigit (w .view) = omega arith in
     let highs : highOf (paired (w .count .0) (w .first .0)) ≡ w .count .0 = omega arith in
     let lows : lowOf (paired (w .count .0) (w .first .0)) ≡ w .first .0 = omega arith in
     let seconds : highOf (paired (w .second .0) (readBefore (w .latest))) ≡ w .second .0 = omega arith in
@@ -118,8 +119,8 @@ read-again r marks above e first before =
     let m = mode-small (r .mode) in
     let rose : levelOf (marks / 2) ≡ writeRose (r .latest) = level-again (writeRose (r .latest)) (marks / 2) (omega arith) in
     let low : lowOf (paired (r .second .0) (writeBefore (r .latest))) ≡ writeBefore (r .latest) = omega arith in
-    let setup : fourthOf (marks / 8) ≡ setupDigit (r .setup) = omega arith in
-    let mode : fourthOf (marks / 32) ≡ modeDigit (r .mode) = omega arith in
+    let setup : digitOfFour (marks / 8) ≡ setupDigit (r .setup) = omega arith in
+    let mode : digitOfFour (marks / 32) ≡ modeDigit (r .mode) = omega arith in
     let highs : highOf (paired (r .count .0) (r .first .0)) ≡ r .count .0 = omega arith in
     let lows : lowOf (paired (r .count .0) (r .first .0)) ≡ r .first .0 = omega arith in
     let seconds : highOf (paired (r .second .0) (writeBefore (r .latest))) ≡ r .second .0 = omega arith in

@@ -8,13 +8,14 @@ use Rattle.chip.specs.declared.state.State.{State}
 use Rattle.offsets.specs.declared.reading.Reading.{Reading}
 use Rattle.offsets.specs.declared.registers.Offsets.{Offsets}
 use Rattle.pins.specs.Trace.{joined}
+use Rattle.offsets.specs.Registers.{methodOf}
 use Rattle.sides.specs.declared.read.ReadSide.{ReadSide}
 use Rattle.sides.specs.declared.write.WriteSide.{WriteSide}
 use Rattle.fifo_c.specs.declared.spelling.Words.{Words}
 use Rattle.fifo_c.specs.declared.state.Spelt.{Spelt}
 use Rattle.fifo_c.specs.declared.state.Spelt.the-variants.{As, NoState}
 use Rattle.fifo_c.specs.Bytes.{byteOf, lowByte}
-use Rattle.fifo_c.specs.Marks.{fourthOf, levelOf, methodOf, modeOf, nextOf, otherMarks, readBefore, readMarks, readRiseOf, setupOf, shownOffset, showsOf, viewOf, writeBefore, writeMarks, writeRiseOf}
+use Rattle.fifo_c.specs.Marks.{digitOfFour, levelOf, modeOf, nextOf, otherMarks, readBefore, readMarks, readRiseOf, setupOf, shownOffset, showsOf, viewOf, writeBefore, writeMarks, writeRiseOf}
 
 -- two numbers of 16 bits in a word
 abbrev pub paired : ℕ → ℕ → ℕ
@@ -49,7 +50,7 @@ writeOf marks counts seconds = record {
   first = record { 0 = lowOf counts };
   second = record { 0 = highOf seconds };
   latest = readRiseOf (levelOf (marks / 4)) (lowOf seconds);
-  view = viewOf (fourthOf (marks / 16));
+  view = viewOf (digitOfFour (marks / 16));
   paf = levelOf (marks / 8);
 }
 
@@ -60,9 +61,9 @@ readOf marks counts seconds output = record {
   first = record { 0 = lowOf counts };
   second = record { 0 = highOf seconds };
   latest = writeRiseOf (levelOf (marks / 2)) (lowOf seconds);
-  setup = setupOf (fourthOf (marks / 8));
+  setup = setupOf (digitOfFour (marks / 8));
   pae = levelOf (marks / 4);
-  mode = modeOf (fourthOf (marks / 32));
+  mode = modeOf (digitOfFour (marks / 32));
   output = output;
 }
 

@@ -63,8 +63,6 @@ pub put-over : (w : Words) (bytes : List ℕ) → length bytes ≡ stateBytes �
 unfolding putWords putLowFirst bytesOf
 put-over w bytes e = rw (one-by-one stateBytes bytes e) refl
 
--- each digit is found again in the sum that it went into
-
 -- what a state's numbers must keep below for its words to hold them
 record Small (s : State) : Type 0 where
   counts : Counted s

@@ -6,6 +6,7 @@ ghost use Rattle.fifo.specs.Run.{putAnswer};
 ghost use lib.ListN.{length};
 ghost use mathlib.Core.Bool.{true};
 ghost use mathlib.Core.Path.{_≡_};
+use super::state::STATE_BYTES;
 use super::verdict::Verdict;
 use chip::state::State;
 use counts::part::Lookup;
@@ -24,7 +25,7 @@ pub extern "C" fn fifo_memory_bytes(part: u32) -> u32
 {
     let looked_up = counts::part::look_up(part);
     match looked_up {
-        Lookup::Known(known) => super::verdict::memory_bytes(known),
+        Lookup::Known(known) => super::memory::memory_bytes(known),
         Lookup::Unknown => 0,
     }
 }
@@ -33,7 +34,7 @@ pub extern "C" fn fifo_memory_bytes(part: u32) -> u32
 pub extern "C" fn fifo_power_up(state: &mut [u8]) -> u32
     ensures { λ r. ⌜ PowersUp (now (state .entry)) r (now (state .exit)) ⌝ }
 {
-    if state.len() == 36 {
+    if state.len() == STATE_BYTES {
         super::state::write_state(chip::reset::power_up(), state);
         0
     } else {

@@ -6,3 +6,4 @@ pub mod memory;
 pub mod spelling;
 pub mod state;
 pub mod verdict;
+pub mod wide;

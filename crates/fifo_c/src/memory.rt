@@ -1,10 +1,17 @@
 // The memory as bytes, four a word: one word fetched and one stored, at most, for a sample.
 ghost use Prim.Native.Nat.{_*_, _+_, _<_};
-ghost use Rattle.fifo_c.specs.Call.{Within, storedIn, wordSize};
+ghost use Rattle.fifo_c.specs.Call.{Within, memoryBytes, storedIn, wordSize};
 ghost use Rattle.pins.specs.Trace.{wordAt};
 ghost use lib.ListN.{length};
 ghost use mathlib.Core.Path.{_≡_};
 use chip::advance::Store;
+use counts::part::Part;
+
+pub(crate) fn memory_bytes(part: Part) -> u32
+    ensures { λ r. ⌜ r ≡ memoryBytes part ⌝ }
+{
+    super::wide::wide(counts::part::depth(part)) * 4
+}
 
 pub(crate) fn fetch(memory: &[u8], place: u16) -> u32
     requires { ⌜ place * wordSize + 3 < length (now memory) ⌝ }

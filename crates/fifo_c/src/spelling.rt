@@ -1,5 +1,4 @@
 // The state's bytes: nine words, and the one spelling of each state.
-ghost use Prim.Native.Nat.{_<_};
 ghost use Rattle.fifo_c.specs.Bytes.{lowByte};
 ghost use Rattle.fifo_c.specs.Spelling.{highOf, lowOf, offsetsOf, paired, readOf, readingOf, same, stateOf, wordsOf, writeOf};
 ghost use mathlib.Core.Path.{_≡_};
@@ -43,7 +42,7 @@ pub(crate) fn words_of(s: State) -> Words
         read_second: pair(s.read.second.0, marks::write_before(read_latest)),
         offsets: pair(s.offsets.n, s.offsets.m),
         serial: s.offsets.serial,
-        shown: wide(marks::shown_offset(shows)),
+        shown: super::wide::wide(marks::shown_offset(shows)),
         output: s.read.output,
     }
 }
@@ -54,7 +53,7 @@ fn all_marks(s: State) -> u32
     marks::write_marks(s.write) * 16777216
         + marks::read_marks(s.read) * 65536
         + marks::other_marks(s) * 256
-        + wide_byte(s.offsets.count)
+        + super::wide::wide_byte(s.offsets.count)
 }
 
 pub(crate) fn state_of(w: Words) -> State
@@ -152,7 +151,7 @@ pub(crate) fn is_same(a: Words, b: Words) -> bool
 fn pair(high: u16, low: u16) -> u32
     ensures { λ r. ⌜ r ≡ paired high low ⌝ }
 {
-    wide(high) * 65536 + wide(low)
+    super::wide::wide(high) * 65536 + super::wide::wide(low)
 }
 
 fn high(word: u32) -> u16
@@ -171,16 +170,4 @@ fn low_byte(word: u32) -> u8
     ensures { λ r. ⌜ r ≡ lowByte word ⌝ }
 {
     (word % 256) as u8
-}
-
-fn wide(number: u16) -> u32
-    ensures { λ r. ⌜ (r ≡ number) × (r < 65536) ⌝ }
-{
-    number as u32
-}
-
-fn wide_byte(number: u8) -> u32
-    ensures { λ r. ⌜ (r ≡ number) × (r < 256) ⌝ }
-{
-    number as u32
 }

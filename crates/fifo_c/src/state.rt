@@ -10,6 +10,9 @@ use super::spelling::state_of;
 use super::spelling::words_of;
 use chip::state::State;
 
+// Nine words of four bytes.
+pub(crate) const STATE_BYTES: usize = 36;
+
 // The state that bytes spell, if they spell one.
 pub enum Spelt {
     As(State),

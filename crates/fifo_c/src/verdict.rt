@@ -1,9 +1,9 @@
 // What is turned away, for the C call: every check, before anything is written.
-ghost use Rattle.fifo_c.specs.Call.{judged, memoryBytes, onRecord, onSpelt, roomy, verdictOf};
+ghost use Rattle.fifo_c.specs.Call.{judged, onRecord, onSpelt, roomy, verdictOf};
 ghost use Rattle.fifo_c.specs.Spelling.{spelt, stateBytes};
 ghost use lib.ListN.{length};
-ghost use Prim.Native.Nat.{_<_};
 ghost use mathlib.Core.Path.{_≡_};
+use super::state::STATE_BYTES;
 use super::state::Spelt;
 use chip::state::State;
 use counts::part::Lookup;
@@ -33,13 +33,9 @@ pub(crate) fn judge(part: u32, record: &[u8], state: &[u8], memory: usize, answe
 fn is_roomy(part: Part, state: usize, memory: usize, answer: usize) -> bool
     ensures { λ r. ⌜ r ≡ roomy part state memory answer ⌝ }
 {
-    (state == 36) & (memory == wide_word(memory_bytes(part))) & (answer == 3)
-}
-
-pub(crate) fn memory_bytes(part: Part) -> u32
-    ensures { λ r. ⌜ r ≡ memoryBytes part ⌝ }
-{
-    wide(counts::part::depth(part)) * 4
+    (state == STATE_BYTES)
+        & (memory == super::wide::wide_word(super::memory::memory_bytes(part)))
+        & (answer == 3)
 }
 
 fn judge_state(part: Part, record: &[u8], state: &[u8]) -> Verdict
@@ -63,7 +59,7 @@ fn judge_record(part: Part, record: &[u8], s: State) -> Verdict
     if record.len() == 4 {
         let word = super::bytes::word_at(record, 0);
         settle(
-            wide_byte(fifo::sample::refuse_record(part, word, s)),
+            super::wide::wide_byte(fifo::sample::refuse_record(part, word, s)),
             part,
             word,
             s,
@@ -81,22 +77,4 @@ fn settle(number: u32, part: Part, word: u32, s: State) -> Verdict
     } else {
         Verdict::Refuse(number)
     }
-}
-
-fn wide(number: u16) -> u32
-    ensures { λ r. ⌜ (r ≡ number) × (r < 65536) ⌝ }
-{
-    number as u32
-}
-
-fn wide_word(number: u32) -> usize
-    ensures { λ r. ⌜ r ≡ number ⌝ }
-{
-    number as usize
-}
-
-fn wide_byte(number: u8) -> u32
-    ensures { λ r. ⌜ r ≡ number ⌝ }
-{
-    number as u32
 }

@@ -6,7 +6,7 @@ use Rattle.fifo_c.proofs.verdict.judge_record.Tie as tie
 
 returns : tie.Need-returns
 unfolding onRecord
-returns c = simp (c .settle .ensures, c .before .wide-byte .ensures, c .before .before .refuse-record .ensures, c .before .before .before .word-at .ensures, eq-eqb _ _ (c .before .before .before .before .if1 .taken))
+returns c = simp (c .settle .ensures, c .before .wide-byte .ensures .0, c .before .before .refuse-record .ensures, c .before .before .before .word-at .ensures, eq-eqb _ _ (c .before .before .before .before .if1 .taken))
 
 returns-2 : tie.Need-returns-2
 unfolding onRecord
