@@ -3,3 +3,5 @@ pub mod Read
 pub mod Write
 pub mod Laws
 pub mod SinceReset
+pub mod Counted
+pub mod CountLaws

@@ -72,19 +72,18 @@ module _ (depth : ℕ) (wclk rclk : Bool) (t : TrueCounts) where
   ordered-read true true view setup other next taken before o w h l s m =
       rw (begun-once setup) (read-rise view (justBegun setup) other next taken before o w h l s (m .0) (m .1))
 
-  -- a setup that runs through a sample
-  pub setting-read : (rises rt : Bool) (setup : Setup) (next taken before : ℕ) → Setting setup t
-      → Setting (setupAfter rises rt setup) (afterRead rises (rises && not rt) next taken before t)
-  setting-read false rt Over next taken before h = tt
-  setting-read false rt OneMore next taken before h = h
-  setting-read false rt TwoMore next taken before h = h
-  setting-read true false setup next taken before h = (refl, refl, refl)
-  setting-read true true Over next taken before h = tt
-  setting-read true true OneMore next taken before h = tt
-  setting-read true true TwoMore next taken before h = omega arith
-
 pub takes-written : (depth : ℕ) (view : View) (begun rclk : Bool) (t : TrueCounts) (met wclk : Bool) → Ordered depth view begun wclk rclk t
     → TakesWritten t (across met wclk (t .written) (t .writtenBefore))
 takes-written depth view begun rclk t true true o = omega arith
 takes-written depth view begun rclk t false true o = omega arith
 takes-written depth view begun rclk t met false o = omega arith
+
+-- a setup through a sample
+pub setting-after : (rises rt : Bool) (setup : Setup) (before oneAgo twoAgo threeAgo : ℕ) → Setting setup oneAgo twoAgo threeAgo
+    → let back = rises && not rt in
+    Setting (setupAfter rises rt setup) (cond back 0 (cond rises before oneAgo)) (cond back 0 (cond rises oneAgo twoAgo)) (cond back 0 (cond rises twoAgo threeAgo))
+setting-after false rt setup before oneAgo twoAgo threeAgo h = h
+setting-after true false setup before oneAgo twoAgo threeAgo h = (refl, refl, refl)
+setting-after true true Over before oneAgo twoAgo threeAgo h = tt
+setting-after true true OneMore before oneAgo twoAgo threeAgo h = tt
+setting-after true true TwoMore before oneAgo twoAgo threeAgo h = omega arith

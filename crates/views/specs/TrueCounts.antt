@@ -115,10 +115,10 @@ pub record Ordered (depth : ℕ) (view : View) (begun wclk rclk : Bool) (t : Tru
   pub sighted : Sighted depth view begun rclk t
 
 -- a setup that runs has had so few rises after the retransmit
-abbrev pub Setting : Setup → TrueCounts → Type 0
-Setting Over t = Unit {0}
-Setting OneMore t = (t .twoAgo ≡ 0) × (t .threeAgo ≡ 0)
-Setting TwoMore t = (t .oneAgo ≡ 0) × (t .twoAgo ≡ 0) × (t .threeAgo ≡ 0)
+abbrev pub Setting : Setup → ℕ → ℕ → ℕ → Type 0
+Setting Over oneAgo twoAgo threeAgo = Unit {0}
+Setting OneMore oneAgo twoAgo threeAgo = (twoAgo ≡ 0) × (threeAgo ≡ 0)
+Setting TwoMore oneAgo twoAgo threeAgo = (oneAgo ≡ 0) × (twoAgo ≡ 0) × (threeAgo ≡ 0)
 
 -- what may come into the write side's first stage, by whether it is from after the retransmit
 abbrev pub TakesRead : View → Bool → Bool → TrueCounts → ℕ → Type 0
