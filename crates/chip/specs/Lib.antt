@@ -6,5 +6,7 @@ pub mod Advance
 pub mod Widths
 pub mod Laws
 pub mod ResetLaws
+pub mod ReachLaws
 pub mod SinceReset
+pub mod RefusalLaws
 pub mod Unique

@@ -5,3 +5,4 @@ pub mod Laws
 pub mod SinceReset
 pub mod Counted
 pub mod CountLaws
+pub mod DueLaws
