@@ -1,24 +1,24 @@
 -- The two sides, whatever an allowed sample does to them, go on holding the true counts.
-use Prim.Native.Nat.{ℕ, _+_, _-_, _%_, _≤_, _<_}
+use Prim.Native.Nat.{ℕ, _+_, _%_, _≤_, _<_}
 use mathlib.Core.Bool.{Bool, true, false, not, cond, _&&_, _||_, and-eq-true-iff, and-false, true≢false}
 use mathlib.Core.Logic.{_≢_}
-use mathlib.Core.Path.{_≡_, refl, sym, ap, _∙_}
+use mathlib.Core.Path.{_≡_, refl, sym, _∙_}
 use lib.Dec.{eqb}
 use borrow.Author.Tests.{eqb-false, eqb-true, not-true}
 use native.Mathlib.Omega.{arith}
 use Rattle.counts.specs.declared.round.ReadCount.{ReadCount}
 use Rattle.counts.specs.declared.round.WriteCount.{WriteCount}
-use Rattle.counts.specs.Round.{less, nextRead, width}
+use Rattle.counts.specs.Round.{less, width}
 use Rattle.counts.specs.Sized.{Sized}
 use Rattle.pins.specs.declared.record.Pins.{Pins}
-use Rattle.sides.specs.declared.read.Mode.{Mode}
-use Rattle.sides.specs.declared.read.Mode.the-variants.{Standard, Fwft}
 use Rattle.sides.specs.declared.read.ReadSide.{ReadSide}
 use Rattle.sides.specs.declared.write.WriteSide.{WriteSide}
 use Rattle.sides.specs.Clocks.{readRises, writeRises}
-use Rattle.sides.specs.Counted.{Allowed, Counted, Owes, RemembersRead, RemembersWrite, nextTrue, trueAfter}
-use Rattle.sides.specs.Read.{delivers, deliversBy, modeAfter, readAfter, readCountAfter, reads, ready, readyBy, retransmits, secondAfterRead, seesWord}
-use Rattle.sides.specs.SinceReset.{Tallies, tallies-after}
+use Rattle.sides.specs.Counted.{Allowed, Counted, Owes, nextTrue, trueAfter}
+use Rattle.sides.specs.DeliveryLaws.{all-delivered, may-move, none-still, none-unseen, owes-after}
+use Rattle.sides.specs.Read.{delivers, modeAfter, readAfter, readCountAfter, reads, ready, retransmits, secondAfterRead, seesWord}
+use Rattle.sides.specs.RoundLaws.{read-round, remembers-read, remembers-write, since-read, since-write, stage-round, taken-read, taken-write}
+use Rattle.sides.specs.SinceReset.{tallies-after}
 use Rattle.sides.specs.Write.{accepts, fromAfter, full, secondAfterWrite, takesAfter, writeAfter, writeCountAfter}
 use Rattle.views.specs.declared.retransmit.Setup.{Setup}
 use Rattle.views.specs.declared.retransmit.Setup.the-variants.{Over, OneMore, TwoMore}
@@ -26,11 +26,9 @@ use Rattle.views.specs.declared.retransmit.View.{View}
 use Rattle.views.specs.declared.retransmit.View.the-variants.{Unseen, Taken, Seen}
 use Rattle.views.specs.declared.stages.ReadRise.{ReadRise}
 use Rattle.views.specs.declared.stages.ReadRise.the-variants as readRise
-use Rattle.views.specs.declared.stages.WriteRise.{WriteRise}
-use Rattle.views.specs.declared.stages.WriteRise.the-variants as writeRise
 use Rattle.views.specs.OrderLaws.{ordered-read, ordered-write, setting-after, takes-written}
 use Rattle.views.specs.Retransmit.{isOver, isSeen, justBegun, looked, setupAfter, viewAfter}
-use Rattle.views.specs.Stages.{latestRead, latestWrite, looksPast, takenRead, takenWrite}
+use Rattle.views.specs.Stages.{looksPast}
 use Rattle.views.specs.TrueCounts.{MayAccept, MayMove, Ordered, Setting, TakesRead, TakesWritten, TrueCounts, When, across, afterWrite, readSince, writeSince}
 
 -- what a rise of WCLK takes is within its view
@@ -63,120 +61,6 @@ may-accept depth t true true false true view e h = tt
 may-accept depth t true true false false Seen e h = h refl
 may-accept depth t true true false false Taken e h = absurd (true≢false e)
 may-accept depth t true true false false Unseen e h = absurd (true≢false e)
-
--- no word seen, none delivered
-unseen-by : (mode : Mode) (asked : Bool) → deliversBy mode false (asked && readyBy mode false) ≡ false
-unseen-by Standard asked = and-false asked
-unseen-by (Fwft untaken) asked = refl
-
-pub none-unseen : (p : Pins) (r : ReadSide) → seesWord r ≡ false → delivers p r ≡ false
-unfolding delivers reads ready
-none-unseen p r e = simp (e, and-false) (unseen-by (r .mode) (readRises p r && p .ld && not (p .ren) && p .rt))
-
-none-by : (mode : Mode) → deliversBy mode false false ≡ false
-none-by Standard = refl
-none-by (Fwft untaken) = refl
-
-none-still : (p : Pins) (r : ReadSide) → readRises p r ≡ false → delivers p r ≡ false
-unfolding delivers reads
-none-still p r e = simp e (none-by (r .mode))
-
--- counts and stages round the width, at a sample's decisions
-read-round : (retransmitted delivered : Bool) (count : ReadCount) (read : ℕ) → count .0 ≡ read % width
-    → cond {A = ReadCount} retransmitted (record { 0 = 0 }) (nextRead delivered count) .0 ≡ nextTrue retransmitted delivered read % width
-read-round true delivered count read e = refl
-read-round false true count read e = omega arith
-read-round false false count read e = e
-
-taken-read : (rises met : Bool) (latest : ReadRise) (count first : ReadCount) (read before stage : ℕ)
-    → count .0 ≡ read % width → first .0 ≡ stage % width → RemembersRead latest before
-    → cond rises (takenRead met latest count) first .0 ≡ cond rises (across met (readSince latest) read before) stage % width
-taken-read false met latest count first read before stage e f g = f
-taken-read true met readRise.NoneSince count first read before stage e f g = e
-taken-read true true (readRise.Before earlier) count first read before stage e f g = e
-taken-read true false (readRise.Before earlier) count first read before stage e f g = g
-
-taken-write : (rises met : Bool) (latest : WriteRise) (count first : WriteCount) (written before stage : ℕ)
-    → count .0 ≡ written % width → first .0 ≡ stage % width → RemembersWrite latest before
-    → cond rises (takenWrite met latest count) first .0 ≡ cond rises (across met (writeSince latest) written before) stage % width
-taken-write false met latest count first written before stage e f g = f
-taken-write true met writeRise.NoneSince count first written before stage e f g = e
-taken-write true true (writeRise.Before earlier) count first written before stage e f g = e
-taken-write true false (writeRise.Before earlier) count first written before stage e f g = g
-
-second-read : (rises : Bool) (first second : ReadCount) (one two : ℕ) → first .0 ≡ one % width → second .0 ≡ two % width
-    → cond rises first second .0 ≡ cond rises one two % width
-second-read true first second one two e f = e
-second-read false first second one two e f = f
-
-second-write : (rises : Bool) (first second : WriteCount) (one two : ℕ) → first .0 ≡ one % width → second .0 ≡ two % width
-    → cond rises first second .0 ≡ cond rises one two % width
-second-write true first second one two e f = e
-second-write false first second one two e f = f
-
-remembers-read : (own other : Bool) (count : ReadCount) (latest : ReadRise) (read before : ℕ) → count .0 ≡ read % width → RemembersRead latest before
-    → RemembersRead (latestRead own other count latest) (cond other read before)
-remembers-read own true count latest read before e f = e
-remembers-read true false count latest read before e f = tt
-remembers-read false false count latest read before e f = f
-
-remembers-write : (own other : Bool) (count : WriteCount) (latest : WriteRise) (written before : ℕ) → count .0 ≡ written % width → RemembersWrite latest before
-    → RemembersWrite (latestWrite own other count latest) (cond other written before)
-remembers-write own true count latest written before e f = e
-remembers-write true false count latest written before e f = tt
-remembers-write false false count latest written before e f = f
-
-since-read : (own other : Bool) (count : ReadCount) (latest : ReadRise) → readSince (latestRead own other count latest) ≡ other || not own && readSince latest
-since-read own true count latest = refl
-since-read true false count latest = refl
-since-read false false count latest = refl
-
-since-write : (own other : Bool) (count : WriteCount) (latest : WriteRise)
-    → writeSince (latestWrite own other count latest) ≡ cond own other (other || writeSince latest)
-since-write true true count latest = refl
-since-write false true count latest = refl
-since-write true false count latest = refl
-since-write false false count latest = refl
-
--- with no word seen at a rise, nothing that was accepted four rises ago is undelivered
-owes-by : (seen keeps : Bool) (fourAgo read : ℕ) → (seen ≡ false → fourAgo ≤ read)
-    → Owes (Fwft (seen && not keeps || keeps)) fourAgo (cond (seen && not keeps) (read + 1) read)
-owes-by true true fourAgo read h = tt
-owes-by true false fourAgo read h = tt
-owes-by false true fourAgo read h = tt
-owes-by false false fourAgo read h = h refl
-
-owes-still : (mode : Mode) (fourAgo read : ℕ) → Owes mode fourAgo read → Owes (modeAfter mode false false false) fourAgo read
-owes-still Standard fourAgo read h = tt
-owes-still (Fwft true) fourAgo read h = tt
-owes-still (Fwft false) fourAgo read h = h
-
-owes-after : (mode : Mode) (rises ld ren rt seen : Bool) (threeAgo fourAgo read : ℕ) → Owes mode fourAgo read → (seen ≡ false → threeAgo ≤ read)
-    → let reading = rises && ld && not ren && rt && readyBy mode seen in let delivered = deliversBy mode (rises && rt && seen) reading in
-    let back = rises && not rt in
-    Owes (modeAfter mode back delivered reading) (cond back 0 (cond rises threeAgo fourAgo)) (nextTrue back delivered read)
-owes-after Standard rises ld ren rt seen threeAgo fourAgo read h k = tt
-owes-after (Fwft untaken) true ld ren false seen threeAgo fourAgo read h k = omega arith
-owes-after (Fwft untaken) true ld ren true seen threeAgo fourAgo read h k = owes-by seen (untaken && not (ld && not ren && true && untaken)) threeAgo read k
-owes-after (Fwft untaken) false ld ren rt seen threeAgo fourAgo read h k = owes-still (Fwft untaken) fourAgo read h
-
--- what was accepted three rises ago is delivered, if no word is seen
-all-delivered : (setup : Setup) (same : Bool) (t : TrueCounts) → Setting setup (t .oneAgo) (t .twoAgo) (t .threeAgo) → t .threeAgo ≤ t .readSecond → (same ≡ true → t .readSecond ≡ t .read)
-    → isOver setup && not same ≡ false → t .threeAgo ≤ t .read
-all-delivered Over true t s h k e = let f = k refl in omega arith
-all-delivered Over false t s h k e = absurd (true≢false e)
-all-delivered OneMore same t s h k e = omega arith
-all-delivered TwoMore same t s h k e = omega arith
-
--- where a word may be delivered, the read count that a sample leads to
-may-move : (depth : ℕ) (rises rt delivered : Bool) (t : TrueCounts) → (rises ≡ false → delivered ≡ false)
-    → (delivered ≡ true → t .read < t .readSecond) → t .read ≤ t .readSecond → (rises && not rt ≡ true → t .written < depth)
-    → MayMove rises rt (nextTrue (rises && not rt) delivered (t .read)) depth t
-may-move depth false rt true t h k o l = absurd (true≢false (h refl))
-may-move depth false rt false t h k o l = refl
-may-move depth true true true t h k o l = let f = k refl in omega arith
-may-move depth true true false t h k o l = omega arith
-may-move depth true false delivered t h k o l = (refl, l refl)
 
 -- fewer words than the depth ahead, told round the width
 room-by : (depth count second written seen : ℕ) → depth + depth ≤ width → count ≡ written % width → second ≡ seen % width → seen ≤ written → written ≤ seen + depth
@@ -279,13 +163,12 @@ module _ (depth : ℕ) (z : Sized depth) (w : WriteSide) (r : ReadSide) (t : Tru
     counts-stay m n fetched = record {
       written = tallies-after (t .written) depth m p r w (g .written);
       read = read-round (retransmits p r) (delivers p r) (r .count) (t .read) (g .read);
-      writeFirst =
-        taken-read (writeRises p w) (p .skew .write) (w .latest) (r .count) (w .first) (t .read) (t .readBefore) (t .writeFirst) (g .read) (g .writeFirst) (g .latestRead);
-      writeSecond = second-read (writeRises p w) (w .first) (w .second) (t .writeFirst) (t .writeSecond) (g .writeFirst) (g .writeSecond);
-      readFirst =
-        taken-write (readRises p r) (p .skew .read) (r .latest) (w .count) (r .first) (t .written) (t .writtenBefore) (t .readFirst) (g .written .count) (g .readFirst)
-        (g .latestWrite);
-      readSecond = second-write (readRises p r) (r .first) (r .second) (t .readFirst) (t .readSecond) (g .readFirst) (g .readSecond);
+      writeFirst = stage-round (λ (c : ReadCount). c .0) (writeRises p w) _ (w .first) _ (t .writeFirst)
+          (taken-read (p .skew .write) (w .latest) (r .count) (t .read) (t .readBefore) (g .read) (g .latestRead)) (g .writeFirst);
+      writeSecond = stage-round (λ (c : ReadCount). c .0) (writeRises p w) (w .first) (w .second) (t .writeFirst) (t .writeSecond) (g .writeFirst) (g .writeSecond);
+      readFirst = stage-round (λ (c : WriteCount). c .0) (readRises p r) _ (r .first) _ (t .readFirst)
+          (taken-write (p .skew .read) (r .latest) (w .count) (t .written) (t .writtenBefore) (g .written .count) (g .latestWrite)) (g .readFirst);
+      readSecond = stage-round (λ (c : WriteCount). c .0) (readRises p r) (r .first) (r .second) (t .readFirst) (t .readSecond) (g .readFirst) (g .readSecond);
       latestRead = remembers-read (writeRises p w) (readRises p r) (r .count) (w .latest) (t .read) (t .readBefore) (g .read) (g .latestRead);
       latestWrite = remembers-write (readRises p r) (writeRises p w) (w .count) (r .latest) (t .written) (t .writtenBefore) (g .written .count) (g .latestWrite);
       ordered =

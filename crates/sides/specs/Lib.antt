@@ -4,5 +4,7 @@ pub mod Write
 pub mod Laws
 pub mod SinceReset
 pub mod Counted
+pub mod RoundLaws
+pub mod DeliveryLaws
 pub mod CountLaws
 pub mod DueLaws
