@@ -100,9 +100,12 @@ module _ (depth : ℕ) (z : Sized depth) (w : WriteSide) (r : ReadSide) (t : Tru
       let differ = not-true (eqb (r .second .0) (r .count .0)) (and-eq-true-iff (isOver (r .setup)) (not (eqb (r .second .0) (r .count .0))) .0 e .1) in
       apart-by (r .second .0) (r .count .0) (t .readSecond) (t .read) (g .readSecond) (g .read) (g .ordered .unread) (eqb-false _ _ differ)
 
-  word-left : (p : Pins) (seen : Bool) → seesWord r ≡ seen → delivers p r ≡ true → t .read < t .readSecond
-  word-left p true e f = word-seen e
-  word-left p false e f = absurd (true≢false (sym f ∙ none-unseen p r e))
+  word-by : (p : Pins) (seen : Bool) → seesWord r ≡ seen → delivers p r ≡ true → t .read < t .readSecond
+  word-by p true e f = word-seen e
+  word-by p false e f = absurd (true≢false (sym f ∙ none-unseen p r e))
+
+  pub word-left : (p : Pins) → delivers p r ≡ true → t .read < t .readSecond
+  word-left p = word-by p (seesWord r) refl
 
   none-owed : seesWord r ≡ false → t .threeAgo ≤ t .read
   unfolding seesWord
@@ -138,7 +141,7 @@ module _ (depth : ℕ) (z : Sized depth) (w : WriteSide) (r : ReadSide) (t : Tru
 
     moves : MayMove (readRises p r) (p .rt) (nextTrue (retransmits p r) (delivers p r) (t .read)) depth afterWriting
     unfolding retransmits
-    moves = may-move depth (readRises p r) (p .rt) (delivers p r) afterWriting (none-still p r) (word-left p (seesWord r) refl) (g .ordered .unread) few-after
+    moves = may-move depth (readRises p r) (p .rt) (delivers p r) afterWriting (none-still p r) (word-left p) (g .ordered .unread) few-after
 
     ordered-after : Ordered depth (viewAfter (retransmits p r) (writeRises p w) (takesAfter p r w) (w .view)) (justBegun (setupAfter (readRises p r) (p .rt) (r .setup)))
         (cond (readRises p r) (writeRises p w) (writeRises p w || writeSince (r .latest)))

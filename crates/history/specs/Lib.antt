@@ -1,0 +1,12 @@
+pub mod Onlooker
+pub mod Trace
+pub mod WordLaws
+pub mod EventLaws
+pub mod Told
+pub mod ToldLaws
+pub mod LedLaws
+pub mod TimeLaws
+pub mod RunLaws
+pub mod KeptLaws
+pub mod Tight
+pub mod Histories
