@@ -1,7 +1,7 @@
 -- What is turned away, 3: a state that samples lead to from power-up passes its test, for it holds true counts.
 use Prim.Native.Nat.{ℕ, _+_, _-_, _%_, _≤_}
 use mathlib.Core.Bool.{Bool, true, false, cond, _&&_}
-use mathlib.Core.Path.{_≡_, refl, _∙_}
+use mathlib.Core.Path.{_≡_, refl}
 use lib.Dec.{leb}
 use borrow.Author.Tests.{le-leb}
 use native.Mathlib.Omega.{arith}
@@ -16,7 +16,7 @@ use Rattle.sides.specs.declared.read.Mode.{Mode}
 use Rattle.sides.specs.declared.read.Mode.the-variants.{Standard, Fwft}
 use Rattle.sides.specs.Counted.{Counted, Owes, trueAfter}
 use Rattle.sides.specs.CountLaws.{counts-stay}
-use Rattle.sides.specs.DueLaws.{left-behind}
+use Rattle.sides.specs.DecisionLaws.{left-behind}
 use Rattle.views.specs.OrderLaws.{ordered-reset}
 use Rattle.views.specs.TrueCounts.{TrueCounts, noCounts}
 use Rattle.chip.specs.declared.state.State.{State}

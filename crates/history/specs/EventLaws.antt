@@ -14,7 +14,7 @@ use Rattle.sides.specs.Clocks as clocks
 use Rattle.sides.specs.Read as read
 use Rattle.sides.specs.Read.{deliversBy, modeAfter, readAfter, readyBy, seesWord}
 use Rattle.sides.specs.Write as write
-use Rattle.history.specs.Onlooker.{Notes, Shown, accepts, delivers, full, outside, rclkRises, reads, ready, retransmits}
+use Rattle.history.specs.Onlooker.{Notes, accepts, delivers, full, outside, rclkRises, reads, ready, retransmits}
 use Rattle.history.specs.Trace.{shownBy}
 
 abbrev pub isFwft : Mode → Bool
@@ -80,4 +80,5 @@ module _ (part : Part) (b : Notes) (p : Pins) (s : State) (away : outside p ≡ 
   unfolding delivers read.delivers read.ready read.retransmits shownBy linesOf running readAfter clocks.readRises
   delivers-told fetched =
       rw (reads-told, away, rclk, fwft)
-      (delivers-by (s .read .mode) (clocks.readRises p (s .read)) (p .rt) (seesWord (s .read)) (seesWord (running part p fetched s .read)) (read.reads p (s .read)))
+      (delivers-by (s .read .mode) (clocks.readRises p (s .read)) (p .rt) (seesWord (s .read)) (seesWord (running part p fetched s .read))
+      (read.reads p (s .read)))

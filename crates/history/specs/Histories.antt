@@ -8,7 +8,7 @@ use Prim.Native.Nat.{ℕ, _≤_}
 use mathlib.Core.Bool.{Bool, true, false, cond, true≢false}
 use mathlib.Core.List.{List, _∷_, _++_}
 use mathlib.Core.Logic.{_≢_}
-use mathlib.Core.Path.{_≡_, refl, sym, _∙_}
+use mathlib.Core.Path.{_≡_, refl, sym, subst, _∙_}
 use lib.ListN.{drop, length, length-replicate, take}
 use native.Mathlib.Omega.{arith}
 use Rattle.chip.specs.declared.state.State.{State}
@@ -16,7 +16,8 @@ use Rattle.chip.specs.State.{wordsHeld}
 use Rattle.counts.specs.declared.part.Part.{Part}
 use Rattle.counts.specs.declared.part.Part.the-variants.{Idt72V255LA}
 use Rattle.counts.specs.Part.{depthOf}
-use Rattle.fifo.specs.Run.{Ended}
+use Rattle.fifo.specs.declared.run.Ran.{Ran}
+use Rattle.fifo.specs.Run.{ranOf}
 use Rattle.fifo.specs.Sample.{numberOf}
 use Rattle.views.specs.TrueCounts.{noCounts}
 use Rattle.history.specs.KeptLaws.{depth-at-most, first-delivered, remainder-in-memory}
@@ -25,7 +26,7 @@ use Rattle.history.specs.Onlooker.{ready}
 use Rattle.history.specs.RunLaws.{led-parts, run-led}
 use Rattle.history.specs.Tight.{fwftReset, late-fwft, late-standard, risenThrice, risenTwice, standardReset, watched, wordWritten, zeros}
 use Rattle.history.specs.TimeLaws.{due-shown}
-use Rattle.history.specs.Trace.{Moment, acceptsWord, led, next, outcome, powerUp, readRises, runFrom, shownBy, undisturbed, workedOn}
+use Rattle.history.specs.Trace.{Moment, acceptsWord, at, led, next, outcome, powerUp, readRises, runFrom, shownBy, undisturbed, workedOn}
 use Rattle.history.specs.WordLaws.{wordsFrom}
 
 -- What is true at a moment.
@@ -95,24 +96,22 @@ not-at-third =
     let e = late-fwft in
     too-few 3 3 fwftReset risenThrice (rw e refl) (rw e refl) (rw e (omega arith)) (rw e (omega arith)) (rw e refl)
 
--- A run over a trace's bytes, strict or lenient: the same, at the moment that it leads to.
-abbrev pub atEnd : (part : Part) → Ended → List ℕ → List ℕ → Moment
-atEnd part run bytes memory = record {
-  state = run .progress .state;
-  memory = run .progress .memory;
-  notes = led part (powerUp memory) (workedOn run bytes) .notes;
-}
+-- A run over a trace's bytes from power-up, strict or lenient: `r` and `left` are the result and the memory that `run` and
+-- `run_lenient` promise to hand back. The same holds at the moment that it leaves behind.
+abbrev pub leftBy : Part → List ℕ → List ℕ → Ran → List ℕ → Moment
+leftBy part bytes memory r left = at (r .state) left (led part (powerUp memory) (workedOn (r .index) bytes) .notes)
 
-module _ (part : Part) (lenient : Bool) (bytes memory answers marks : List ℕ) (whole : length memory ≡ depthOf part) where
-  pub run-kept : Kept part (atEnd part (runFrom part lenient bytes memory answers marks) bytes memory)
+module _ (part : Part) (lenient : Bool) (bytes memory answers marks : List ℕ) (whole : length memory ≡ depthOf part) (r : Ran) (left : List ℕ)
+    (result : r ≡ ranOf (runFrom part lenient bytes memory answers marks)) (words : left ≡ runFrom part lenient bytes memory answers marks .progress .memory) where
+  pub run-kept : Kept part (leftBy part bytes memory r left)
   run-kept =
-      let led-there = run-led part lenient bytes memory answers marks whole in
-      rw (led-there .0, led-there .1) (kept part memory whole (workedOn (runFrom part lenient bytes memory answers marks) bytes))
+      let end = run-led part lenient bytes memory answers marks whole in
+      rw (result, words, end .0, end .1) (kept part memory whole (workedOn (runFrom part lenient bytes memory answers marks .index) bytes))
 
-  pub run-in-time : (earlier : List ℕ) (x : ℕ) (later : List ℕ) → workedOn (runFrom part lenient bytes memory answers marks) bytes ≡ earlier ++ (x ∷ later)
-      → Waiting 3 4 part (led part (powerUp memory) earlier) x later
-      → let end = atEnd part (runFrom part lenient bytes memory answers marks) bytes memory in Ready part (end .notes .fwft) (end .state)
+  pub run-in-time : (earlier : List ℕ) (x : ℕ) (later : List ℕ) → workedOn (r .index) bytes ≡ earlier ++ (x ∷ later)
+      → Waiting 3 4 part (led part (powerUp memory) earlier) x later → Ready part (leftBy part bytes memory r left .notes .fwft) (r .state)
   unfolding led
   run-in-time earlier x later e w =
-      rw (run-led part lenient bytes memory answers marks whole .0, e, led-parts part earlier (x ∷ later) (powerUp memory))
-      (in-time part memory whole earlier x later w)
+      let there : r .state ≡ led part (powerUp memory) (workedOn (r .index) bytes) .state = rw result (run-led part lenient bytes memory answers marks whole .0) in
+      subst (Ready part (leftBy part bytes memory r left .notes .fwft)) (sym there)
+      (rw (e, led-parts part earlier (x ∷ later) (powerUp memory)) (in-time part memory whole earlier x later w))

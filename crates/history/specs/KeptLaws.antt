@@ -28,5 +28,5 @@ module _ (part : Part) (m : Moment) (t : TrueCounts) (g : Told part m t) where
       ≡ wordsFrom (depthOf part) (m .memory) (m .state .read .count .0) (wordsHeld (m .state))
   remainder-in-memory =
       rw (words-held part (m .state) t (g .reached), g .agrees .read)
-      (sym (remainder-held (depthOf part) (m .memory) (m .notes .accepted) (m .state .read .count .0) (t .read) (t .written - t .read) (g .agrees .holds) read-place
-      (omega arith) (omega arith)))
+      (sym (remainder-held (depthOf part) (m .memory) (m .notes .accepted) (m .state .read .count .0) (t .read) (t .written - t .read)
+      (g .agrees .holds) read-place (omega arith) (omega arith)))

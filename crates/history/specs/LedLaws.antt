@@ -22,9 +22,9 @@ use Rattle.fifo.specs.Sample.{After, fetchedFor, recordRefusal, stepped, taken,
 use Rattle.fifo.specs.SampleLaws.{sample-is-step}
 use Rattle.pins.specs.Record.{bit, pinsOf}
 use Rattle.views.specs.TrueCounts.{TrueCounts, noCounts}
-use Rattle.history.specs.Told.{Agrees, Told}
+use Rattle.history.specs.Told.{Told}
 use Rattle.history.specs.ToldLaws.{agrees-after}
-use Rattle.history.specs.Trace.{Moment, isTaken, led, movedTo, next, outcome, powerUp, takes}
+use Rattle.history.specs.Trace.{Moment, isTaken, led, movedTo, next, outcome, powerUp}
 
 none-of : (spare : Bool) (refusal : ℕ) → cond spare 4 refusal ≡ 0 → refusal ≡ 0
 none-of true refusal e = absurd (omega arith)
@@ -47,7 +47,8 @@ not-three : (part : Part) (x : ℕ) (s : State) → recordRefusal part x s ≢ 3
 unfolding recordRefusal refusalOf
 not-three part x s =
     let p = pinsOf x in
-    not-three-by (bit 18 x) (refusesFive p s) (p .mrs && p .prs) (refusesSix p s) (refusesSeven p s) (refusesEight p s) (refusesNine (depthOf part) p s) (refusesTen p s)
+    not-three-by (bit 18 x) (refusesFive p s) (p .mrs && p .prs) (refusesSix p s) (refusesSeven p s) (refusesEight p s)
+    (refusesNine (depthOf part) p s) (refusesTen p s)
 
 number-by : (is : Bool) (a : Advanced) (number : ℕ) (s : State) (memory : List ℕ) → number ≢ 3
     → sample.numberOf (cond is (took a memory) (turnedAway number s memory) .sampled .outcome) ≢ 3

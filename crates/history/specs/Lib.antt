@@ -3,6 +3,7 @@ pub mod Trace
 pub mod WordLaws
 pub mod EventLaws
 pub mod Told
+pub mod WentOnLaws
 pub mod ToldLaws
 pub mod LedLaws
 pub mod TimeLaws

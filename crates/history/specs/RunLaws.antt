@@ -9,17 +9,17 @@ use native.Mathlib.Omega.{arith}
 use Rattle.chip.specs.Reset.{poweredUp}
 use Rattle.chip.specs.ResetLaws.{power-up-passes}
 use Rattle.counts.specs.declared.part.Part.{Part}
-use Rattle.counts.specs.Part.{depthOf, numberOf}
+use Rattle.counts.specs.Part.{depthOf}
 use Rattle.counts.specs.PartLaws.{own-number}
 use Rattle.fifo.specs.Run.{Ended, Progress, ended, folded, noted, roomy, runOf, started, stops, worked}
 use Rattle.fifo.specs.Sample as sample
-use Rattle.fifo.specs.Sample.{After, isDepth, stepped}
+use Rattle.fifo.specs.Sample.{isDepth, stepped}
 use Rattle.pins.specs.Trace.{recordsFrom, wholeRecords}
 use Rattle.views.specs.TrueCounts.{TrueCounts, noCounts}
 use Rattle.history.specs.LedLaws.{countsNext, sample-steps, told-next, told-power-up}
 use Rattle.history.specs.Onlooker.{Notes}
 use Rattle.history.specs.Told.{Told}
-use Rattle.history.specs.Trace.{Moment, led, movedTo, next, powerUp, runFrom, workedOn}
+use Rattle.history.specs.Trace.{Moment, at, led, movedTo, next, powerUp, runFrom, workedOn}
 
 -- an end that is so many records further on, and there the state and memory that these lead to
 record Follows (part : Part) (m : Moment) (xs : List ℕ) (index : ℕ) (e : Ended) : Type 0 where
@@ -29,16 +29,16 @@ record Follows (part : Part) (m : Moment) (xs : List ℕ) (index : ℕ) (e : End
   memory : e .progress .memory ≡ led part m (take many xs) .memory
 
 module _ (part : Part) where
-  abbrev where-with : Progress → Notes → Moment
-  where-with g notes = record { state = g .state; memory = g .memory; notes = notes }
+  abbrev with-notes : Progress → Notes → Moment
+  with-notes g notes = at (g .state) (g .memory) notes
 
-  stays : (g : Progress) (notes : Notes) (xs : List ℕ) (number index : ℕ) → Follows part (where-with g notes) xs index (ended number index g)
+  stays : (g : Progress) (notes : Notes) (xs : List ℕ) (number index : ℕ) → Follows part (with-notes g notes) xs index (ended number index g)
   unfolding led
   stays g notes xs number index = record { many = 0; further = omega arith; state = refl; memory = refl }
 
   goes-on : (stop : Bool) (g : Progress) (notes : Notes) (x : ℕ) (xs : List ℕ) (number index : ℕ) (rest : Ended)
-      → Follows part (next part (where-with g notes) x) xs (index + 1) rest
-      → Follows part (where-with g notes) (x ∷ xs) index (cond stop (ended number index g) rest)
+      → Follows part (next part (with-notes g notes) x) xs (index + 1) rest
+      → Follows part (with-notes g notes) (x ∷ xs) index (cond stop (ended number index g) rest)
   unfolding led
   goes-on true g notes x xs number index rest f = stays g notes (x ∷ xs) number index
   goes-on false g notes x xs number index rest f = record {
@@ -48,12 +48,12 @@ module _ (part : Part) where
     memory = f .memory;
   }
 
-  fold-follows : (lenient : Bool) (last : ℕ) (xs : List ℕ) (index : ℕ) (g : Progress) (notes : Notes) (t : TrueCounts) → Told part (where-with g notes) t
-      → Follows part (where-with g notes) xs index (folded lenient (stepped part) last xs index g)
+  fold-follows : (lenient : Bool) (last : ℕ) (xs : List ℕ) (index : ℕ) (g : Progress) (notes : Notes) (t : TrueCounts) → Told part (with-notes g notes) t
+      → Follows part (with-notes g notes) xs index (folded lenient (stepped part) last xs index g)
   unfolding folded next
   fold-follows lenient last [] index g notes t told = stays g notes [] last index
   fold-follows lenient last (x ∷ xs) index g notes t told =
-      let m = where-with g notes in
+      let m = with-notes g notes in
       let a = stepped part x (g .state) (g .memory) in
       let same : next part m x ≡ movedTo part m x a = ap (movedTo part m x) (sample-steps part m t told x) in
       goes-on (stops lenient (a .sampled .outcome)) g notes x xs (sample.numberOf (a .sampled .outcome)) index
@@ -62,8 +62,8 @@ module _ (part : Part) where
       (fold-follows lenient last xs (index + 1) (noted lenient index a g) (movedTo part m x a .notes) (countsNext part m x t)
       (subst (λ (n : Moment). Told part n (countsNext part m x t)) same (told-next part m t told x))))
 
-  start-by : (room : Bool) (g : Progress) (notes : Notes) (xs : List ℕ) (whole : Ended) → Follows part (where-with g notes) xs 0 whole
-      → Follows part (where-with g notes) xs 0 (cond room whole (ended 2 0 g))
+  start-by : (room : Bool) (g : Progress) (notes : Notes) (xs : List ℕ) (whole : Ended) → Follows part (with-notes g notes) xs 0 whole
+      → Follows part (with-notes g notes) xs 0 (cond room whole (ended 2 0 g))
   start-by true g notes xs whole f = f
   start-by false g notes xs whole f = stays g notes xs 2 0
 
@@ -72,11 +72,13 @@ module _ (part : Part) where
     unfolding runOf worked powerUp
     run-follows =
         rw (own-number part, power-up-passes part)
-        (start-by (isDepth part (length memory) && roomy lenient (wholeRecords bytes) (length answers) (length marks)) (started poweredUp memory answers marks) _ _ _
-        (fold-follows lenient _ (recordsFrom bytes 0 (wholeRecords bytes)) 0 (started poweredUp memory answers marks) _ noCounts (told-power-up part memory whole)))
+        (start-by (isDepth part (length memory) && roomy lenient (wholeRecords bytes) (length answers) (length marks))
+        (started poweredUp memory answers marks) _ _ _
+        (fold-follows lenient _ (recordsFrom bytes 0 (wholeRecords bytes)) 0 (started poweredUp memory answers marks) _ noCounts
+        (told-power-up part memory whole)))
 
     pub run-led : let run = runFrom part lenient bytes memory answers marks in
-        (run .progress .state ≡ led part (powerUp memory) (workedOn run bytes) .state) × (run .progress .memory ≡ led part (powerUp memory) (workedOn run bytes) .memory)
+        let end = led part (powerUp memory) (workedOn (run .index) bytes) in (run .progress .state ≡ end .state) × (run .progress .memory ≡ end .memory)
     run-led =
         let f = run-follows in
         let many : runFrom part lenient bytes memory answers marks .index ≡ f .many = f .further ∙ zero-add (f .many) in

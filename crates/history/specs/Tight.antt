@@ -19,7 +19,7 @@ use Rattle.sides.specs.Clocks as clocks
 use Rattle.sides.specs.Read as read
 use Rattle.sides.specs.Write as write
 use Rattle.history.specs.Onlooker.{accepts, delivers, noted, reads, ready, retransmits, wentOn}
-use Rattle.history.specs.Trace.{Moment, acceptsWord, led, next, outcome, powerUp, readRises, shownBy, takes, undisturbed}
+use Rattle.history.specs.Trace.{acceptsWord, led, next, outcome, powerUp, readRises, shownBy, takes, undisturbed}
 
 unfoldable pub zeros : List ℕ
 zeros = replicate 8192 0

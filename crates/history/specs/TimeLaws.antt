@@ -2,11 +2,9 @@
 use Prim.Native.Nat.{ℕ, _+_, _≤_, _<_}
 use mathlib.Core.Bool.{Bool, true, false, not, cond, _&&_, _||_, and-eq-true-iff, true≢false}
 use mathlib.Core.List.{List, [], _∷_}
-use mathlib.Core.Path.{_≡_, refl, sym, ap, _∙_}
+use mathlib.Core.Path.{_≡_, refl, sym, _∙_}
 use lib.ListN.{length}
-use borrow.Author.Tests.{not-true}
 use native.Mathlib.Omega.{arith}
-use Rattle.chip.specs.declared.state.State.{State}
 use Rattle.chip.specs.ReachLaws.{countsAfter}
 use Rattle.counts.specs.declared.part.Part.{Part}
 use Rattle.counts.specs.Part.{depthOf}
@@ -16,16 +14,16 @@ use Rattle.pins.specs.Record.{pinsOf}
 use Rattle.sides.specs.declared.read.Mode.{Mode}
 use Rattle.sides.specs.declared.read.Mode.the-variants.{Standard, Fwft}
 use Rattle.sides.specs.Clocks as clocks
-use Rattle.sides.specs.Counted.{nextTrue, trueAfter}
-use Rattle.sides.specs.DueLaws.{dueBy, ready-due}
-use Rattle.sides.specs.Read as read
+use Rattle.sides.specs.Counted.{trueAfter}
+use Rattle.sides.specs.CountLaws.{grows}
+use Rattle.sides.specs.DecisionLaws.{dueBy, ready-due}
 use Rattle.sides.specs.Write as write
 use Rattle.views.specs.TrueCounts.{TrueCounts, afterRead, afterWrite, noCounts}
 use Rattle.history.specs.EventLaws.{accepts-told, isFwft, ready-told, retransmits-told, rises-told}
-use Rattle.history.specs.LedLaws.{countsLed, countsNext, told-led, told-next, told-power-up}
+use Rattle.history.specs.LedLaws.{countsLed, countsNext, told-led, told-next}
 use Rattle.history.specs.Onlooker.{Notes, Shown, accepts, outside, rclkRises, ready, retransmits}
 use Rattle.history.specs.Told.{Told}
-use Rattle.history.specs.Trace.{Moment, acceptsWord, led, next, outcome, powerUp, readRises, shownBy, takes, undisturbed}
+use Rattle.history.specs.Trace.{Moment, acceptsWord, led, next, readRises, shownBy, takes, undisturbed}
 
 -- a word's number is below the words accepted before each of so many latest rises of RCLK
 record Aged (rises number : ℕ) (t : TrueCounts) : Type 0 where
@@ -43,10 +41,6 @@ same-age many again number t e g = record {
   three = λ l. g .three (omega arith);
   four = λ l. g .four (omega arith);
 }
-
-grows : (one : Bool) (count : ℕ) → count ≤ cond one (count + 1) count
-grows true count = omega arith
-grows false count = omega arith
 
 aged-on : (own accepted other : Bool) (age number following first second : ℕ) (t : TrueCounts) → Aged age number t
     → Aged (age + cond own 1 0) number (afterRead own false following first (t .written) (afterWrite other accepted second t))
@@ -85,7 +79,8 @@ module _ (part : Part) (m : Moment) (t : TrueCounts) (g : Told part m t) (p : Pi
   aged-after age number still h =
       let back = sym (retransmits-told part (m .notes) p (m .state) away (g .agrees .wclk) (g .agrees .rclk) (g .agrees .fwft)) ∙ still in
       rw (counts-on, back, rises-told part (m .notes) p (m .state) away (g .agrees .wclk) (g .agrees .rclk) (g .agrees .fwft))
-      (aged-on (clocks.readRises p (m .state .read)) (write.accepts (depthOf part) p (m .state .write)) (clocks.writeRises p (m .state .write)) age number _ _ _ t h)
+      (aged-on (clocks.readRises p (m .state .read)) (write.accepts (depthOf part) p (m .state .write)) (clocks.writeRises p (m .state .write))
+      age number _ _ _ t h)
 
   counted-more : accepts (m .notes) p (shownBy part (m .state)) ≡ true → length (m .notes .accepted) < countsAfter part p (m .state) t .written
   unfolding trueAfter
@@ -123,7 +118,8 @@ module _ (part : Part) where
   unfolding undisturbed readRises countsLed
   aged-led [] m t age number g e h = same-age age (age + 0) number t (omega arith) h
   aged-led (x ∷ xs) m t age number g e h =
-      let both = and-eq-true-iff (not (takes part m x) || outside (pinsOf x) && not (retransmits (m .notes) (pinsOf x))) (undisturbed part (next part m x) xs) .0 e in
+      let calm = not (takes part m x) || outside (pinsOf x) && not (retransmits (m .notes) (pinsOf x)) in
+      let both = and-eq-true-iff calm (undisturbed part (next part m x) xs) .0 e in
       same-age _ _ number _ (omega arith)
       (aged-led xs (next part m x) (countsNext part m x t) _ number (told-next part m t g x) (both .1) (aged-next m t x age number g (both .0) h))
 
@@ -140,12 +136,15 @@ module _ (part : Part) where
         four = λ l. absurd (omega arith);
       })
 
--- from which rise of RCLK on the flag answers for a word, in Standard and in FWFT
-old-enough : (mode : Mode) (age number : ℕ) (t : TrueCounts) → Aged age number t → cond (isFwft mode) 4 3 ≤ age → number < dueBy mode t
-old-enough Standard age number t g l = g .three l
-old-enough (Fwft untaken) age number t g l = g .four l
+-- from which rise of RCLK on the flag answers for a word: the third in Standard, the fourth in FWFT
+abbrev pub dueRise : Bool → ℕ
+dueRise fwft = cond fwft 4 3
 
-shows-ready : (part : Part) (m : Moment) (t : TrueCounts) (age number : ℕ) → Told part m t → Aged age number t → cond (m .notes .fwft) 4 3 ≤ age
+old-enough : (mode : Mode) (age number : ℕ) (t : TrueCounts) → Aged age number t → dueRise (isFwft mode) ≤ age → number < dueBy mode t
+old-enough Standard age number t g l = g .three (omega arith)
+old-enough (Fwft untaken) age number t g l = g .four (omega arith)
+
+shows-ready : (part : Part) (m : Moment) (t : TrueCounts) (age number : ℕ) → Told part m t → Aged age number t → dueRise (m .notes .fwft) ≤ age
     → length (m .notes .delivered) ≤ number → ready (m .notes .fwft) (shownBy part (m .state)) ≡ true
 shows-ready part m t age number g h l undelivered =
     let due = old-enough (m .state .read .mode) age number t h (rw (g .agrees .fwft) at l) in
@@ -154,7 +153,7 @@ shows-ready part m t age number g h l undelivered =
 
 pub due-shown : (part : Part) (m : Moment) (t : TrueCounts) (x : ℕ) (later : List ℕ) → Told part m t → acceptsWord part m x ≡ true
     → let after = led part (next part m x) later in
-    undisturbed part (next part m x) later ≡ true → cond (after .notes .fwft) 4 3 ≤ readRises part (next part m x) later
+    undisturbed part (next part m x) later ≡ true → dueRise (after .notes .fwft) ≤ readRises part (next part m x) later
     → length (after .notes .delivered) ≤ length (m .notes .accepted) → ready (after .notes .fwft) (shownBy part (after .state)) ≡ true
 due-shown part m t x later g a calm due undelivered =
     let told = told-next part m t g x in

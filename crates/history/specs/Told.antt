@@ -1,5 +1,4 @@
 -- What holds between the model and the onlooker's notes at every moment from power-up on.
-use Prim.Native.Nat.{ℕ}
 use mathlib.Core.Path.{_≡_}
 use lib.ListN.{length, take}
 use Rattle.chip.specs.ReachLaws.{Reached}

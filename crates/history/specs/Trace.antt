@@ -22,8 +22,11 @@ pub record Moment : Type 0 where
   pub memory : List ℕ
   pub notes : Notes
 
+abbrev pub at : State → List ℕ → Notes → Moment
+at s memory notes = record { state = s; memory = memory; notes = notes }
+
 unfoldable pub powerUp : List ℕ → Moment
-powerUp memory = record { state = poweredUp; memory = memory; notes = blank }
+powerUp memory = at poweredUp memory blank
 
 -- the flags are those of the answer; OE has no part in them
 unfoldable pub shownBy : Part → State → Shown
@@ -33,9 +36,9 @@ abbrev pub isTaken : Outcome → Bool
 isTaken (Taken answer) = true
 isTaken (Refused number) = false
 
--- the records that a run over a trace works before it ends
-abbrev pub workedOn : Ended → List ℕ → List ℕ
-workedOn run bytes = take (run .index) (recordsFrom bytes 0 (wholeRecords bytes))
+-- the records of a trace that a run works before it ends at an index
+abbrev pub workedOn : ℕ → List ℕ → List ℕ
+workedOn index bytes = take index (recordsFrom bytes 0 (wholeRecords bytes))
 
 module _ (part : Part) where
   -- one sample, as `sample` works it

@@ -1,5 +1,5 @@
 -- Words in a list and in a memory that goes round.
-use Prim.Native.Nat.{ℕ, zero, suc, _+_, _%_, _^_, _≤_, _<_}
+use Prim.Native.Nat.{ℕ, zero, suc, _+_, _%_, _≤_, _<_}
 use mathlib.Core.Bool.{Bool, true, false, cond}
 use mathlib.Core.List.{List, [], _∷_, _++_}
 use mathlib.Core.Path.{_≡_, refl, sym, ap, _∙_}
@@ -27,7 +27,8 @@ Holds depth memory accepted =
 one-longer : (l : List ℕ) (x : ℕ) → length (l ++ (x ∷ [])) ≡ length l + 1
 one-longer l x = length-append l (x ∷ [])
 
-module _ (depth : ℕ) (memory accepted : List ℕ) (x : ℕ) (some : 0 < depth) (whole : length memory ≡ depth) (narrow : word x ≡ x) (h : Holds depth memory accepted) where
+module _ (depth : ℕ) (memory accepted : List ℕ) (x : ℕ) (some : 0 < depth) (whole : length memory ≡ depth) (narrow : word x ≡ x)
+    (h : Holds depth memory accepted) where
   holds-one-more : Holds depth (set memory (placeOf depth (length accepted)) x) (accepted ++ (x ∷ []))
   holds-one-more i l near = go (decLt i (length accepted))
     where
@@ -37,7 +38,8 @@ module _ (depth : ℕ) (memory accepted : List ℕ) (x : ℕ) (some : 0 < depth)
       go (yes earlier) =
           let far = places-apart depth i (length accepted) earlier (omega (arith, one-longer accepted x)) in
           let old = h i earlier (omega (arith, one-longer accepted x)) in
-          rw (List·getD-append accepted (x ∷ []) 0 i earlier) (getD-set-other memory (placeOf depth (length accepted)) (placeOf depth i) x 0 far ∙ old .0, old .1)
+          rw (List·getD-append accepted (x ∷ []) 0 i earlier)
+          (getD-set-other memory (placeOf depth (length accepted)) (placeOf depth i) x 0 far ∙ old .0, old .1)
       go (no later) =
           let last : i ≡ length accepted = omega (arith, one-longer accepted x) in
           rw (last, getD-append-seam accepted x [] 0)
@@ -57,8 +59,8 @@ take-after true l x n h = take-append-le n l (x ∷ []) h
 take-after false l x n h = refl
 
 -- one word more delivered is the next of those accepted
-pub delivered-after : (one : Bool) (accepted delivered : List ℕ) (n x : ℕ) → delivered ≡ take n accepted → (one ≡ true → (n < length accepted) × (x ≡ getD accepted n 0))
-    → cond one (delivered ++ (x ∷ [])) delivered ≡ take (cond one (n + 1) n) accepted
+pub delivered-after : (one : Bool) (accepted delivered : List ℕ) (n x : ℕ) → delivered ≡ take n accepted
+    → (one ≡ true → (n < length accepted) × (x ≡ getD accepted n 0)) → cond one (delivered ++ (x ∷ [])) delivered ≡ take (cond one (n + 1) n) accepted
 delivered-after true accepted delivered n x e h = rw (e, h refl .1, add-one n) (sym (take-suc accepted n 0 (h refl .0)))
 delivered-after false accepted delivered n x e h = e
 

@@ -52,8 +52,8 @@ owes-after (Fwft untaken) true ld ren true seen threeAgo fourAgo read h k = owes
 owes-after (Fwft untaken) false ld ren rt seen threeAgo fourAgo read h k = owes-still (Fwft untaken) fourAgo read h
 
 -- what was accepted three rises ago is delivered, if no word is seen
-pub all-delivered : (setup : Setup) (same : Bool) (t : TrueCounts) → Setting setup (t .oneAgo) (t .twoAgo) (t .threeAgo) → t .threeAgo ≤ t .readSecond → (same ≡ true → t .readSecond ≡ t .read)
-    → isOver setup && not same ≡ false → t .threeAgo ≤ t .read
+pub all-delivered : (setup : Setup) (same : Bool) (t : TrueCounts) → Setting setup (t .oneAgo) (t .twoAgo) (t .threeAgo)
+    → t .threeAgo ≤ t .readSecond → (same ≡ true → t .readSecond ≡ t .read) → isOver setup && not same ≡ false → t .threeAgo ≤ t .read
 all-delivered Over true t s h k e = let f = k refl in omega arith
 all-delivered Over false t s h k e = absurd (true≢false e)
 all-delivered OneMore same t s h k e = omega arith

@@ -6,5 +6,6 @@ pub mod SinceReset
 pub mod Counted
 pub mod RoundLaws
 pub mod DeliveryLaws
+pub mod AcceptLaws
+pub mod DecisionLaws
 pub mod CountLaws
-pub mod DueLaws

@@ -1,5 +1,5 @@
 -- The two sides: counts, stages and remembered rises after a sample, each the true one round the width.
-use Prim.Native.Nat.{ℕ, _+_, _%_}
+use Prim.Native.Nat.{ℕ, _%_}
 use mathlib.Core.Bool.{Bool, true, false, not, cond, _&&_, _||_}
 use mathlib.Core.Path.{_≡_, refl}
 use native.Mathlib.Omega.{arith}
@@ -38,14 +38,14 @@ taken-write met writeRise.NoneSince count written before e f = e
 taken-write true (writeRise.Before earlier) count written before e f = e
 taken-write false (writeRise.Before earlier) count written before e f = f
 
-pub remembers-read : (own other : Bool) (count : ReadCount) (latest : ReadRise) (read before : ℕ) → count .0 ≡ read % width → RemembersRead latest before
-    → RemembersRead (latestRead own other count latest) (cond other read before)
+pub remembers-read : (own other : Bool) (count : ReadCount) (latest : ReadRise) (read before : ℕ) → count .0 ≡ read % width
+    → RemembersRead latest before → RemembersRead (latestRead own other count latest) (cond other read before)
 remembers-read own true count latest read before e f = e
 remembers-read true false count latest read before e f = tt
 remembers-read false false count latest read before e f = f
 
-pub remembers-write : (own other : Bool) (count : WriteCount) (latest : WriteRise) (written before : ℕ) → count .0 ≡ written % width → RemembersWrite latest before
-    → RemembersWrite (latestWrite own other count latest) (cond other written before)
+pub remembers-write : (own other : Bool) (count : WriteCount) (latest : WriteRise) (written before : ℕ) → count .0 ≡ written % width
+    → RemembersWrite latest before → RemembersWrite (latestWrite own other count latest) (cond other written before)
 remembers-write own true count latest written before e f = e
 remembers-write true false count latest written before e f = tt
 remembers-write false false count latest written before e f = f

@@ -1,5 +1,5 @@
 -- The order of the true counts outlives every rise that What is turned away lets through.
-use Prim.Native.Nat.{ℕ, _+_, _≤_, _<_}
+use Prim.Native.Nat.{ℕ, _≤_, _<_}
 use mathlib.Core.Bool.{Bool, true, false, not, cond, _&&_, _||_}
 use mathlib.Core.Path.{_≡_, refl}
 use native.Mathlib.Omega.{arith}
@@ -8,7 +8,7 @@ use Rattle.views.specs.declared.retransmit.Setup.the-variants.{Over, One
 use Rattle.views.specs.declared.retransmit.View.{View}
 use Rattle.views.specs.declared.retransmit.View.the-variants.{Unseen, Taken, Seen}
 use Rattle.views.specs.Retransmit.{counted, justBegun, looked, setupAfter}
-use Rattle.views.specs.TrueCounts.{MayAccept, MayMove, Ordered, Setting, Sighted, TakesRead, TakesWritten, TrueCounts, When, across, afterRead, afterWrite, noCounts}
+use Rattle.views.specs.TrueCounts.{MayAccept, MayMove, Ordered, Setting, TakesRead, TakesWritten, TrueCounts, When, across, afterRead, afterWrite, noCounts}
 
 pub ordered-reset : (depth : ℕ) → Ordered depth Seen false false false noCounts
 ordered-reset depth = omega arith

@@ -31,8 +31,18 @@ pub record TrueCounts : Type 0 where
 
 abbrev pub noCounts : TrueCounts
 noCounts = record {
-  written = 0; read = 0; writtenBefore = 0; readBefore = 0; writeFirst = 0; writeSecond = 0; readFirst = 0; readSecond = 0;
-  oneAgo = 0; twoAgo = 0; threeAgo = 0; fourAgo = 0;
+  written = 0;
+  read = 0;
+  writtenBefore = 0;
+  readBefore = 0;
+  writeFirst = 0;
+  writeSecond = 0;
+  readFirst = 0;
+  readSecond = 0;
+  oneAgo = 0;
+  twoAgo = 0;
+  threeAgo = 0;
+  fourAgo = 0;
 }
 
 -- the write side's part of a sample: whether WCLK rises, whether a word is accepted, and the read count taken
