@@ -8,16 +8,17 @@ use Prim.Native.Nat.{ℕ, _≤_}
 use mathlib.Core.Bool.{Bool, true, false, cond, true≢false}
 use mathlib.Core.List.{List, _∷_, _++_}
 use mathlib.Core.Logic.{_≢_}
-use mathlib.Core.Path.{_≡_, refl, sym, subst, _∙_}
+use mathlib.Core.Path.{_≡_, refl, sym, ap, subst, _∙_}
 use lib.ListN.{drop, length, length-replicate, take}
 use native.Mathlib.Omega.{arith}
 use Rattle.chip.specs.declared.state.State.{State}
-use Rattle.chip.specs.State.{wordsHeld}
+use Rattle.chip.specs.ReachLaws.{reached-passes}
+use Rattle.chip.specs.State.{passes, wordsHeld}
 use Rattle.counts.specs.declared.part.Part.{Part}
 use Rattle.counts.specs.declared.part.Part.the-variants.{Idt72V255LA}
 use Rattle.counts.specs.Part.{depthOf}
 use Rattle.fifo.specs.declared.run.Ran.{Ran}
-use Rattle.fifo.specs.Run.{ranOf}
+use Rattle.fifo.specs.Run.{Ended, ranOf}
 use Rattle.fifo.specs.Sample.{numberOf}
 use Rattle.views.specs.TrueCounts.{noCounts}
 use Rattle.history.specs.KeptLaws.{depth-at-most, first-delivered, remainder-in-memory}
@@ -38,7 +39,8 @@ pub record Kept (part : Part) (m : Moment) : Type 0 where
   pub remainder : drop (length (m .notes .delivered)) (m .notes .accepted)
       ≡ wordsFrom (depthOf part) (m .memory) (m .state .read .count .0) (wordsHeld (m .state))
   pub neverOver : wordsHeld (m .state) ≤ depthOf part
-  -- whatever sample comes next is not refused 3
+  -- the state passes the test of 3, which a run makes only at its start, and no sample that comes next is refused 3
+  pub passesTest : passes part (m .state) ≡ true
   pub neverThree : (x : ℕ) → numberOf (outcome part m x .sampled .outcome) ≢ 3
 
 -- A word accepted in a sample and waiting: since then neither reset nor retransmit, RCLK has risen so often, in Standard or in FWFT,
@@ -68,6 +70,7 @@ kept part memory whole samples =
       sameWords = first-delivered part _ _ told;
       remainder = remainder-in-memory part _ _ told;
       neverOver = depth-at-most part _ _ told;
+      passesTest = reached-passes part _ _ (told .reached);
       neverThree = outcome-not-three part _ _ told;
     }
 
@@ -96,22 +99,34 @@ not-at-third =
     let e = late-fwft in
     too-few 3 3 fwftReset risenThrice (rw e refl) (rw e refl) (rw e (omega arith)) (rw e (omega arith)) (rw e refl)
 
--- A run over a trace's bytes from power-up, strict or lenient: `r` and `left` are the result and the memory that `run` and
--- `run_lenient` promise to hand back. The same holds at the moment that it leaves behind.
-abbrev pub leftBy : Part → List ℕ → List ℕ → Ran → List ℕ → Moment
-leftBy part bytes memory r left = at (r .state) left (led part (powerUp memory) (workedOn (r .index) bytes) .notes)
+-- A run over a trace's bytes, strict or lenient, that goes on from any such moment: `r` and `left` are the result and the memory
+-- that `run` and `run_lenient` promise to hand back. The run leads where the records that it worked lead one by one, and so
+-- the same is true of it.
+module _ (part : Part) (memory : List ℕ) (whole : length memory ≡ depthOf part) (samples : List ℕ) (lenient : Bool) (bytes answers marks : List ℕ) where
+  abbrev start : Moment
+  start = led part (powerUp memory) samples
 
-module _ (part : Part) (lenient : Bool) (bytes memory answers marks : List ℕ) (whole : length memory ≡ depthOf part) (r : Ran) (left : List ℕ)
-    (result : r ≡ ranOf (runFrom part lenient bytes memory answers marks)) (words : left ≡ runFrom part lenient bytes memory answers marks .progress .memory) where
-  pub run-kept : Kept part (leftBy part bytes memory r left)
-  run-kept =
-      let end = run-led part lenient bytes memory answers marks whole in
-      rw (result, words, end .0, end .1) (kept part memory whole (workedOn (runFrom part lenient bytes memory answers marks .index) bytes))
+  abbrev run : Ended
+  run = runFrom part start lenient bytes answers marks
 
-  pub run-in-time : (earlier : List ℕ) (x : ℕ) (later : List ℕ) → workedOn (r .index) bytes ≡ earlier ++ (x ∷ later)
-      → Waiting 3 4 part (led part (powerUp memory) earlier) x later → Ready part (leftBy part bytes memory r left .notes .fwft) (r .state)
-  unfolding led
-  run-in-time earlier x later e w =
-      let there : r .state ≡ led part (powerUp memory) (workedOn (r .index) bytes) .state = rw result (run-led part lenient bytes memory answers marks whole .0) in
-      subst (Ready part (leftBy part bytes memory r left .notes .fwft)) (sym there)
-      (rw (e, led-parts part earlier (x ∷ later) (powerUp memory)) (in-time part memory whole earlier x later w))
+  module _ (r : Ran) (left : List ℕ) (result : r ≡ ranOf run) (words : left ≡ run .progress .memory) where
+    abbrev end : Moment
+    end = at (r .state) left (led part start (workedOn (r .index) bytes) .notes)
+
+    pub run-leads : end ≡ led part start (workedOn (r .index) bytes)
+    run-leads =
+        let told = told-led part samples (powerUp memory) noCounts (told-power-up part memory whole) in
+        rw (result, words) (run-led part start _ told lenient bytes answers marks)
+
+    pub run-kept : Kept part end
+    run-kept =
+        subst (Kept part) (sym (run-leads ∙ sym (led-parts part samples (workedOn (r .index) bytes) (powerUp memory))))
+        (kept part memory whole (samples ++ workedOn (r .index) bytes))
+
+    pub run-in-time : (earlier : List ℕ) (x : ℕ) (later : List ℕ) → workedOn (r .index) bytes ≡ earlier ++ (x ∷ later)
+        → Waiting 3 4 part (led part start earlier) x later → Ready part (end .notes .fwft) (end .state)
+    unfolding led
+    run-in-time earlier x later e w =
+        let told = told-led part (samples ++ earlier) (powerUp memory) noCounts (told-power-up part memory whole) in
+        subst (λ (m : Moment). Ready part (m .notes .fwft) (m .state)) (sym (run-leads ∙ ap (led part start) e ∙ led-parts part earlier (x ∷ later) start))
+        (due-shown part (led part start earlier) _ x later (rw (led-parts part samples earlier (powerUp memory)) at told) (w .accepted) (w .calm) (w .risen) (w .undelivered))

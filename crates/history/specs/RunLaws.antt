@@ -6,20 +6,18 @@ use mathlib.Core.Path.{_≡_, refl, sym, ap, subst, _∙_}
 use lib.ListN.{length, take}
 use native.Mathlib.Nat.{zero-add}
 use native.Mathlib.Omega.{arith}
-use Rattle.chip.specs.Reset.{poweredUp}
-use Rattle.chip.specs.ResetLaws.{power-up-passes}
+use Rattle.chip.specs.ReachLaws.{reached-passes}
 use Rattle.counts.specs.declared.part.Part.{Part}
-use Rattle.counts.specs.Part.{depthOf}
 use Rattle.counts.specs.PartLaws.{own-number}
 use Rattle.fifo.specs.Run.{Ended, Progress, ended, folded, noted, roomy, runOf, started, stops, worked}
 use Rattle.fifo.specs.Sample as sample
 use Rattle.fifo.specs.Sample.{isDepth, stepped}
 use Rattle.pins.specs.Trace.{recordsFrom, wholeRecords}
-use Rattle.views.specs.TrueCounts.{TrueCounts, noCounts}
-use Rattle.history.specs.LedLaws.{countsNext, sample-steps, told-next, told-power-up}
+use Rattle.views.specs.TrueCounts.{TrueCounts}
+use Rattle.history.specs.LedLaws.{countsNext, sample-steps, told-next}
 use Rattle.history.specs.Onlooker.{Notes}
 use Rattle.history.specs.Told.{Told}
-use Rattle.history.specs.Trace.{Moment, at, led, movedTo, next, powerUp, runFrom, workedOn}
+use Rattle.history.specs.Trace.{Moment, at, led, movedTo, next, runFrom, workedOn}
 
 -- an end that is so many records further on, and there the state and memory that these lead to
 record Follows (part : Part) (m : Moment) (xs : List ℕ) (index : ℕ) (e : Ended) : Type 0 where
@@ -67,22 +65,21 @@ module _ (part : Part) where
   start-by true g notes xs whole f = f
   start-by false g notes xs whole f = stays g notes xs 2 0
 
-  module _ (lenient : Bool) (bytes memory answers marks : List ℕ) (whole : length memory ≡ depthOf part) where
-    run-follows : Follows part (powerUp memory) (recordsFrom bytes 0 (wholeRecords bytes)) 0 (runFrom part lenient bytes memory answers marks)
-    unfolding runOf worked powerUp
+  module _ (m : Moment) (t : TrueCounts) (told : Told part m t) (lenient : Bool) (bytes answers marks : List ℕ) where
+    run-follows : Follows part m (recordsFrom bytes 0 (wholeRecords bytes)) 0 (runFrom part m lenient bytes answers marks)
+    unfolding runOf worked
     run-follows =
-        rw (own-number part, power-up-passes part)
-        (start-by (isDepth part (length memory) && roomy lenient (wholeRecords bytes) (length answers) (length marks))
-        (started poweredUp memory answers marks) _ _ _
-        (fold-follows lenient _ (recordsFrom bytes 0 (wholeRecords bytes)) 0 (started poweredUp memory answers marks) _ noCounts
-        (told-power-up part memory whole)))
+        rw (own-number part, reached-passes part (m .state) t (told .reached))
+        (start-by (isDepth part (length (m .memory)) && roomy lenient (wholeRecords bytes) (length answers) (length marks))
+        (started (m .state) (m .memory) answers marks) (m .notes) _ _
+        (fold-follows lenient _ (recordsFrom bytes 0 (wholeRecords bytes)) 0 (started (m .state) (m .memory) answers marks) (m .notes) t told))
 
-    pub run-led : let run = runFrom part lenient bytes memory answers marks in
-        let end = led part (powerUp memory) (workedOn (run .index) bytes) in (run .progress .state ≡ end .state) × (run .progress .memory ≡ end .memory)
+    pub run-led : let run = runFrom part m lenient bytes answers marks in let end = led part m (workedOn (run .index) bytes) in
+        at (run .progress .state) (run .progress .memory) (end .notes) ≡ end
     run-led =
         let f = run-follows in
-        let many : runFrom part lenient bytes memory answers marks .index ≡ f .many = f .further ∙ zero-add (f .many) in
-        rw many (f .state, f .memory)
+        let many : runFrom part m lenient bytes answers marks .index ≡ f .many = f .further ∙ zero-add (f .many) in
+        rw (many, f .state, f .memory)
 
 pub led-parts : (part : Part) (earlier later : List ℕ) (m : Moment) → led part m (earlier ++ later) ≡ led part (led part m earlier) later
 unfolding led

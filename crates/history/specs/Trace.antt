@@ -59,7 +59,7 @@ module _ (part : Part) where
   unfoldable pub next : Moment → ℕ → Moment
   next m x = movedTo m x (outcome m x)
 
-  -- after a list of samples
+  -- the moment that a list of samples leads to
   unfoldable pub led : Moment → List ℕ → Moment
   led m [] = m
   led m (x ∷ xs) = led (next m x) xs
@@ -78,6 +78,6 @@ module _ (part : Part) where
   readRises m [] = 0
   readRises m (x ∷ xs) = cond (takes m x && rclkRises (m .notes) (pinsOf x)) 1 0 + readRises (next m x) xs
 
-  -- a strict or a lenient run over a trace's bytes from power-up
-  abbrev pub runFrom : Bool → List ℕ → List ℕ → List ℕ → List ℕ → Ended
-  runFrom lenient bytes memory answers marks = runOf lenient (numberOf part) bytes (started poweredUp memory answers marks)
+  -- a strict or a lenient run over a trace's bytes that goes on from a moment
+  abbrev pub runFrom : Moment → Bool → List ℕ → List ℕ → List ℕ → Ended
+  runFrom m lenient bytes answers marks = runOf lenient (numberOf part) bytes (started (m .state) (m .memory) answers marks)
