@@ -129,4 +129,5 @@ module _ (part : Part) (memory : List ℕ) (whole : length memory ≡ depthOf pa
     run-in-time earlier x later e w =
         let told = told-led part (samples ++ earlier) (powerUp memory) noCounts (told-power-up part memory whole) in
         subst (λ (m : Moment). Ready part (m .notes .fwft) (m .state)) (sym (run-leads ∙ ap (led part start) e ∙ led-parts part earlier (x ∷ later) start))
-        (due-shown part (led part start earlier) _ x later (rw (led-parts part samples earlier (powerUp memory)) at told) (w .accepted) (w .calm) (w .risen) (w .undelivered))
+        (due-shown part (led part start earlier) _ x later (rw (led-parts part samples earlier (powerUp memory)) at told)
+        (w .accepted) (w .calm) (w .risen) (w .undelivered))

@@ -21,7 +21,7 @@ module _ (part : Part) (m : Moment) (t : TrueCounts) (g : Told part m t) where
   pub depth-at-most : wordsHeld (m .state) ≤ depthOf part
   depth-at-most = rw (words-held part (m .state) t (g .reached)) (omega arith)
 
-  read-place : placeOf (depthOf part) (m .state .read .count .0) ≡ placeOf (depthOf part) (t .read)
+  pub read-place : placeOf (depthOf part) (m .state .read .count .0) ≡ placeOf (depthOf part) (t .read)
   read-place = rw (g .reached .counted .read) (part-sized part .round (t .read))
 
   pub remainder-in-memory : drop (length (m .notes .delivered)) (m .notes .accepted)

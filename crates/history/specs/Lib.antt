@@ -3,11 +3,11 @@ pub mod Trace
 pub mod WordLaws
 pub mod EventLaws
 pub mod Told
+pub mod KeptLaws
 pub mod WentOnLaws
 pub mod ToldLaws
 pub mod LedLaws
 pub mod TimeLaws
 pub mod RunLaws
-pub mod KeptLaws
 pub mod Tight
 pub mod Histories

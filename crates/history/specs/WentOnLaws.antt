@@ -26,6 +26,7 @@ use Rattle.sides.specs.Write as write
 use Rattle.sides.specs.Write.{writeAfter}
 use Rattle.views.specs.TrueCounts.{TrueCounts}
 use Rattle.history.specs.EventLaws.{accepts-told, delivers-told, isFwft, retransmits-told}
+use Rattle.history.specs.KeptLaws.{read-place}
 use Rattle.history.specs.Onlooker.{Shown, outside, wentOn}
 use Rattle.history.specs.Told.{Agrees, Told}
 use Rattle.history.specs.Trace.{Moment, at, shownBy}
@@ -46,7 +47,8 @@ delivered-by true one delivered x n e = refl
 delivered-by false one delivered x n e = length-after one delivered x n e
 
 same-by : (back one : Bool) (accepted delivered : List ℕ) (n x : ℕ) → delivered ≡ take n accepted
-    → (one ≡ true → (n < length accepted) × (x ≡ getD accepted n 0)) → cond back [] (cond one (delivered ++ (x ∷ [])) delivered) ≡ take (nextTrue back one n) accepted
+    → (one ≡ true → (n < length accepted) × (x ≡ getD accepted n 0))
+    → cond back [] (cond one (delivered ++ (x ∷ [])) delivered) ≡ take (nextTrue back one n) accepted
 same-by true one accepted delivered n x e h = refl
 same-by false one accepted delivered n x e h = delivered-after one accepted delivered n x e h
 
@@ -87,9 +89,7 @@ module _ (part : Part) (m : Moment) (t : TrueCounts) (g : Told part m t) (p : Pi
   word-delivered e =
       let left = word-left (depthOf part) (part-sized part) (m .state .write) (m .state .read) t (g .reached .counted) p e in
       let held = g .agrees .holds (t .read) (omega arith) (omega arith) in
-      let there : placeOf (depthOf part) (m .state .read .count .0) ≡ placeOf (depthOf part) (t .read) =
-      rw (g .reached .counted .read) (part-sized part .round (t .read)) in
-      (omega arith, rw (e, there, held .0) (held .1))
+      (omega arith, rw (e, read-place part m t g, held .0) (held .1))
 
   abbrev store : Store
   store = cond accepted (Put place (word (p .d))) Keep
@@ -128,7 +128,7 @@ module _ (part : Part) (m : Moment) (t : TrueCounts) (g : Told part m t) (p : Pi
         (trueAfter (depthOf part) p (m .state .write) (m .state .read) t)
     unfolding trueAfter
     agrees-on = record {
-      whole = rw (memory-after) (whole-by accepted (m .memory) _ (word (p .d)) ∙ g .agrees .whole);
+      whole = rw memory-after (whole-by accepted (m .memory) _ (word (p .d)) ∙ g .agrees .whole);
       wclk = levels .0;
       rclk = levels .1;
       fwft = mode-kept;
