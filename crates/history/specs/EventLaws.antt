@@ -14,12 +14,10 @@ use Rattle.sides.specs.Clocks as clocks
 use Rattle.sides.specs.Read as read
 use Rattle.sides.specs.Read.{deliversBy, modeAfter, readAfter, readyBy, seesWord}
 use Rattle.sides.specs.Write as write
+use Rattle.views.specs.TrueCounts.{TrueCounts}
 use Rattle.history.specs.Onlooker.{Notes, accepts, delivers, full, outside, rclkRises, reads, ready, retransmits}
-use Rattle.history.specs.Trace.{shownBy}
-
-abbrev pub isFwft : Mode → Bool
-isFwft Standard = false
-isFwft (Fwft untaken) = true
+use Rattle.history.specs.Told.{Agrees, isFwft}
+use Rattle.history.specs.Trace.{Moment, shownBy}
 
 -- each flag, read by the mode, tells what it was set by
 full-by : (mode : Mode) (isFull : Bool) → cond (isFwft mode) (ffLevel mode isFull) (not (ffLevel mode isFull)) ≡ isFull
@@ -50,35 +48,40 @@ delivers-by (Fwft untaken) false rt seen after taken = refl
 delivers-by (Fwft untaken) true false seen after taken = refl
 delivers-by (Fwft untaken) true true seen after taken = came-by seen untaken taken
 
-pub ready-told : (part : Part) (b : Notes) (s : State) → b .fwft ≡ isFwft (s .read .mode) → ready (b .fwft) (shownBy part s) ≡ read.ready (s .read)
+pub ready-told : (part : Part) (m : Moment) (t : TrueCounts) → Agrees part m t → ready (m .notes .fwft) (shownBy part (m .state)) ≡ read.ready (m .state .read)
 unfolding shownBy linesOf
-ready-told part b s fwft = rw fwft (ready-by (s .read .mode) (read.ready (s .read)))
+ready-told part m t g = rw (g .fwft) (ready-by (m .state .read .mode) (read.ready (m .state .read)))
 
-module _ (part : Part) (b : Notes) (p : Pins) (s : State) (away : outside p ≡ true) (wclk : b .wclk ≡ s .write .level) (rclk : b .rclk ≡ s .read .level)
-    (fwft : b .fwft ≡ isFwft (s .read .mode)) where
+module _ (part : Part) (m : Moment) (t : TrueCounts) (g : Agrees part m t) (p : Pins) (away : outside p ≡ true) where
+  abbrev b : Notes
+  b = m .notes
+
+  abbrev s : State
+  s = m .state
+
   full-told : full (b .fwft) (shownBy part s) ≡ write.full (depthOf part) (s .write)
   unfolding shownBy linesOf
-  full-told = rw fwft (full-by (s .read .mode) (write.full (depthOf part) (s .write)))
+  full-told = rw (g .fwft) (full-by (s .read .mode) (write.full (depthOf part) (s .write)))
 
   pub accepts-told : accepts b p (shownBy part s) ≡ write.accepts (depthOf part) p (s .write)
   unfolding accepts write.accepts clocks.writeRises
-  accepts-told = rw (away, wclk, full-told)
+  accepts-told = rw (away, g .wclk, full-told)
 
   pub rises-told : rclkRises b p ≡ clocks.readRises p (s .read)
   unfolding clocks.readRises
-  rises-told = rw (away, rclk)
+  rises-told = rw (away, g .rclk)
 
   pub retransmits-told : retransmits b p ≡ read.retransmits p (s .read)
   unfolding retransmits read.retransmits clocks.readRises
-  retransmits-told = rw (away, rclk)
+  retransmits-told = rw (away, g .rclk)
 
   reads-told : reads b p (shownBy part s) ≡ read.reads p (s .read)
   unfolding reads read.reads clocks.readRises
-  reads-told = rw (away, rclk, ready-told part b s fwft)
+  reads-told = rw (away, g .rclk, ready-told part m t g)
 
   pub delivers-told : (fetched : ℕ) → delivers b p (shownBy part s) (shownBy part (running part p fetched s)) ≡ read.delivers p (s .read)
   unfolding delivers read.delivers read.ready read.retransmits shownBy linesOf running readAfter clocks.readRises
   delivers-told fetched =
-      rw (reads-told, away, rclk, fwft)
+      rw (reads-told, away, g .rclk, g .fwft)
       (delivers-by (s .read .mode) (clocks.readRises p (s .read)) (p .rt) (seesWord (s .read)) (seesWord (running part p fetched s .read))
       (read.reads p (s .read)))

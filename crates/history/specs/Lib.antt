@@ -1,8 +1,8 @@
 pub mod Onlooker
 pub mod Trace
 pub mod WordLaws
-pub mod EventLaws
 pub mod Told
+pub mod EventLaws
 pub mod KeptLaws
 pub mod WentOnLaws
 pub mod ToldLaws

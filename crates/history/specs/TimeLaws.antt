@@ -19,10 +19,10 @@ use Rattle.sides.specs.CountLaws.{grows}
 use Rattle.sides.specs.DecisionLaws.{dueBy, ready-due}
 use Rattle.sides.specs.Write as write
 use Rattle.views.specs.TrueCounts.{TrueCounts, afterRead, afterWrite, noCounts}
-use Rattle.history.specs.EventLaws.{accepts-told, isFwft, ready-told, retransmits-told, rises-told}
+use Rattle.history.specs.EventLaws.{accepts-told, ready-told, retransmits-told, rises-told}
 use Rattle.history.specs.LedLaws.{countsLed, countsNext, told-led, told-next}
 use Rattle.history.specs.Onlooker.{Notes, Shown, accepts, outside, rclkRises, ready, retransmits}
-use Rattle.history.specs.Told.{Told}
+use Rattle.history.specs.Told.{Told, isFwft}
 use Rattle.history.specs.Trace.{Moment, acceptsWord, led, next, readRises, shownBy, takes, undisturbed}
 
 -- a word's number is below the words accepted before each of so many latest rises of RCLK
@@ -77,15 +77,15 @@ module _ (part : Part) (m : Moment) (t : TrueCounts) (g : Told part m t) (p : Pi
       → Aged (age + cond (rclkRises (m .notes) p) 1 0) number (countsAfter part p (m .state) t)
   unfolding trueAfter
   aged-after age number still h =
-      let back = sym (retransmits-told part (m .notes) p (m .state) away (g .agrees .wclk) (g .agrees .rclk) (g .agrees .fwft)) ∙ still in
-      rw (counts-on, back, rises-told part (m .notes) p (m .state) away (g .agrees .wclk) (g .agrees .rclk) (g .agrees .fwft))
+      let back = sym (retransmits-told part m t (g .agrees) p away) ∙ still in
+      rw (counts-on, back, rises-told part m t (g .agrees) p away)
       (aged-on (clocks.readRises p (m .state .read)) (write.accepts (depthOf part) p (m .state .write)) (clocks.writeRises p (m .state .write))
       age number _ _ _ t h)
 
   counted-more : accepts (m .notes) p (shownBy part (m .state)) ≡ true → length (m .notes .accepted) < countsAfter part p (m .state) t .written
   unfolding trueAfter
   counted-more e =
-      let one = sym (accepts-told part (m .notes) p (m .state) away (g .agrees .wclk) (g .agrees .rclk) (g .agrees .fwft)) ∙ e in
+      let one = sym (accepts-told part m t (g .agrees) p away) ∙ e in
       rw (counts-on, one) (omega arith)
 
 first-of : (a b : Bool) → a && b ≡ true → a ≡ true
@@ -148,7 +148,7 @@ shows-ready : (part : Part) (m : Moment) (t : TrueCounts) (age number : ℕ) →
     → length (m .notes .delivered) ≤ number → ready (m .notes .fwft) (shownBy part (m .state)) ≡ true
 shows-ready part m t age number g h l undelivered =
     let due = old-enough (m .state .read .mode) age number t h (rw (g .agrees .fwft) at l) in
-    ready-told part (m .notes) (m .state) (g .agrees .fwft)
+    ready-told part m t (g .agrees)
     ∙ ready-due (depthOf part) (part-sized part) (m .state .write) (m .state .read) t (g .reached .counted) (omega arith)
 
 pub due-shown : (part : Part) (m : Moment) (t : TrueCounts) (x : ℕ) (later : List ℕ) → Told part m t → acceptsWord part m x ≡ true

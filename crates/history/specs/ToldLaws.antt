@@ -21,9 +21,8 @@ use Rattle.sides.specs.declared.read.Mode.{Mode}
 use Rattle.sides.specs.declared.read.Mode.the-variants.{Standard, Fwft}
 use Rattle.sides.specs.Write.{accepts}
 use Rattle.views.specs.TrueCounts.{TrueCounts, noCounts}
-use Rattle.history.specs.EventLaws.{isFwft}
 use Rattle.history.specs.Onlooker.{Notes, noted, startedOver, wentOn}
-use Rattle.history.specs.Told.{Agrees, Told}
+use Rattle.history.specs.Told.{Agrees, Told, isFwft}
 use Rattle.history.specs.Trace.{Moment, at, shownBy}
 use Rattle.history.specs.WentOnLaws.{agrees-on}
 

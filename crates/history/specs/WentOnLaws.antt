@@ -25,10 +25,10 @@ use Rattle.sides.specs.Read.{modeAfter, readAfter}
 use Rattle.sides.specs.Write as write
 use Rattle.sides.specs.Write.{writeAfter}
 use Rattle.views.specs.TrueCounts.{TrueCounts}
-use Rattle.history.specs.EventLaws.{accepts-told, delivers-told, isFwft, retransmits-told}
+use Rattle.history.specs.EventLaws.{accepts-told, delivers-told, retransmits-told}
 use Rattle.history.specs.KeptLaws.{read-place}
 use Rattle.history.specs.Onlooker.{Shown, outside, wentOn}
-use Rattle.history.specs.Told.{Agrees, Told}
+use Rattle.history.specs.Told.{Agrees, Told, isFwft}
 use Rattle.history.specs.Trace.{Moment, at, shownBy}
 use Rattle.history.specs.WordLaws.{delivered-after, holds-after, length-after, take-after}
 
@@ -101,15 +101,15 @@ module _ (part : Part) (m : Moment) (t : TrueCounts) (g : Told part m t) (p : Pi
     accepted-list : wentOn (m .notes) p before (shownBy part after) .accepted
         ≡ cond accepted (m .notes .accepted ++ (word (p .d) ∷ [])) (m .notes .accepted)
     unfolding wentOn
-    accepted-list = rw (accepts-told part (m .notes) p (m .state) away (g .agrees .wclk) (g .agrees .rclk) (g .agrees .fwft))
+    accepted-list = rw (accepts-told part m t (g .agrees) p away)
 
     delivered-list : wentOn (m .notes) p before (shownBy part after) .delivered
         ≡ cond back [] (cond delivered (m .notes .delivered ++ (after .read .output ∷ [])) (m .notes .delivered))
     unfolding wentOn shownBy
     delivered-list =
         rw (
-          retransmits-told part (m .notes) p (m .state) away (g .agrees .wclk) (g .agrees .rclk) (g .agrees .fwft),
-          delivers-told part (m .notes) p (m .state) away (g .agrees .wclk) (g .agrees .rclk) (g .agrees .fwft) fetched,
+          retransmits-told part m t (g .agrees) p away,
+          delivers-told part m t (g .agrees) p away fetched,
         )
 
     levels : (wentOn (m .notes) p before (shownBy part after) .wclk ≡ after .write .level)
