@@ -14,8 +14,8 @@ use Rattle.offsets.specs.declared.registers.Offsets.{Offsets}
 use Rattle.pins.specs.declared.record.Pins.{Pins}
 use Rattle.sides.specs.declared.read.Mode.{Mode}
 use Rattle.sides.specs.declared.read.Mode.the-variants.{Standard, Fwft}
-use Rattle.sides.specs.Counted.{Counted, Owes, trueAfter}
-use Rattle.sides.specs.CountLaws.{counts-stay}
+use Rattle.sides.specs.Tracks.{Tracks, Owes, trueAfter}
+use Rattle.sides.specs.CountLaws.{tracks-on}
 use Rattle.sides.specs.DecisionLaws.{left-behind}
 use Rattle.views.specs.OrderLaws.{ordered-reset}
 use Rattle.views.specs.TrueCounts.{TrueCounts, noCounts}
@@ -29,7 +29,7 @@ use Rattle.chip.specs.State.{inReach, passes, widths, wordsHeld}
 use Rattle.chip.specs.Widths.{tested-widths, widths-stay}
 
 pub record Reached (part : Part) (s : State) (t : TrueCounts) : Type 0 where
-  pub counted : Counted (depthOf part) (s .write) (s .read) t
+  pub tracks : Tracks (depthOf part) (s .write) (s .read) t
   pub narrow : widths part s ≡ true
 
 -- the true counts after a sample that is taken
@@ -43,7 +43,7 @@ none-owed (Fwft false) = omega arith
 
 module _ (part : Part) where
   cleared-counts : (started wclk rclk : Bool) (mode : Mode) (o : Offsets) (reading : Reading)
-      → let s = cleared started wclk rclk mode o reading in Counted (depthOf part) (s .write) (s .read) noCounts
+      → let s = cleared started wclk rclk mode o reading in Tracks (depthOf part) (s .write) (s .read) noCounts
   unfolding cleared
   cleared-counts started wclk rclk mode o reading = record {
     written = record { count = refl; wrapped = refl };
@@ -61,27 +61,27 @@ module _ (part : Part) where
 
   pub power-up-reached : Reached part poweredUp noCounts
   unfolding poweredUp
-  power-up-reached = record { counted = cleared-counts _ _ _ _ _ _; narrow = tested-widths part poweredUp (power-up-passes part) }
+  power-up-reached = record { tracks = cleared-counts _ _ _ _ _ _; narrow = tested-widths part poweredUp (power-up-passes part) }
 
-  counts-by : (mrs prs : Bool) (t : TrueCounts) (run kept fresh : State) → (mrs && prs ≡ true → Counted (depthOf part) (run .write) (run .read) t)
-      → Counted (depthOf part) (kept .write) (kept .read) noCounts → Counted (depthOf part) (fresh .write) (fresh .read) noCounts
-      → let s = cond mrs (cond prs run kept) fresh in Counted (depthOf part) (s .write) (s .read) (cond mrs (cond prs t noCounts) noCounts)
+  counts-by : (mrs prs : Bool) (t : TrueCounts) (run kept fresh : State) → (mrs && prs ≡ true → Tracks (depthOf part) (run .write) (run .read) t)
+      → Tracks (depthOf part) (kept .write) (kept .read) noCounts → Tracks (depthOf part) (fresh .write) (fresh .read) noCounts
+      → let s = cond mrs (cond prs run kept) fresh in Tracks (depthOf part) (s .write) (s .read) (cond mrs (cond prs t noCounts) noCounts)
   counts-by true true t run kept fresh r k f = r refl
   counts-by true false t run kept fresh r k f = k
   counts-by false prs t run kept fresh r k f = f
 
   running-counts : (p : Pins) (fetched : ℕ) (s : State) (t : TrueCounts) → Reached part s t → refusalOf part p s ≡ 0 → p .mrs && p .prs ≡ true
-      → Counted (depthOf part) (running part p fetched s .write) (running part p fetched s .read) (trueAfter (depthOf part) p (s .write) (s .read) t)
+      → Tracks (depthOf part) (running part p fetched s .write) (running part p fetched s .read) (trueAfter (depthOf part) p (s .write) (s .read) t)
   unfolding running
   running-counts p fetched s t h e outside =
-      counts-stay (depthOf part) (part-sized part) (s .write) (s .read) t (h .counted) p
-      (allowed part p s t e outside (h .counted .written)) (s .offsets .m) (s .offsets .n) fetched
+      tracks-on (depthOf part) (part-sized part) (s .write) (s .read) t (h .tracks) p
+      (allowed part p s t e outside (h .tracks .written)) (s .offsets .m) (s .offsets .n) fetched
 
   pub reach-stays : (p : Pins) (fetched : ℕ) (s : State) (t : TrueCounts) → Reached part s t → refusalOf part p s ≡ 0
       → Reached part (advanced part p fetched s .state) (countsAfter part p s t)
   unfolding advanced stateAfter countsAfter masterReset partialReset
   reach-stays p fetched s t h e = record {
-    counted = counts-by (p .mrs) (p .prs) (trueAfter (depthOf part) p (s .write) (s .read) t) (running part p fetched s) (partialReset p s) (masterReset p)
+    tracks = counts-by (p .mrs) (p .prs) (trueAfter (depthOf part) p (s .write) (s .read) t) (running part p fetched s) (partialReset p s) (masterReset p)
         (running-counts p fetched s t h e) (cleared-counts _ _ _ _ _ _) (cleared-counts _ _ _ _ _ _);
     narrow = widths-stay part p fetched s (h .narrow);
   }
@@ -89,10 +89,10 @@ module _ (part : Part) where
   module _ (s : State) (t : TrueCounts) (h : Reached part s t) where
     exact : (count earlier : ℕ) → count ≡ earlier % width → earlier ≤ t .written → t .written ≤ earlier + depthOf part
         → less width (s .write .count .0) count ≡ t .written - earlier
-    exact = left-behind (depthOf part) (part-sized part) (s .write) (s .read) t (h .counted)
+    exact = left-behind (depthOf part) (part-sized part) (s .write) (s .read) t (h .tracks)
 
     pub words-held : wordsHeld s ≡ t .written - t .read
-    words-held = exact (s .read .count .0) (t .read) (h .counted .read) (omega arith) (omega arith)
+    words-held = exact (s .read .count .0) (t .read) (h .tracks .read) (omega arith) (omega arith)
 
     near : (count earlier : ℕ) → count ≡ earlier % width → earlier ≤ t .written → t .written ≤ earlier + depthOf part
         → leb (less width (s .write .count .0) count) (depthOf part) ≡ true
@@ -100,18 +100,18 @@ module _ (part : Part) where
 
     ahead-of-read : leb (behind (s .write .count) (s .read .second)) (wordsHeld s) ≡ true
     ahead-of-read =
-        rw (words-held, exact (s .read .second .0) (t .readSecond) (h .counted .readSecond) (omega arith) (omega arith))
+        rw (words-held, exact (s .read .second .0) (t .readSecond) (h .tracks .readSecond) (omega arith) (omega arith))
         (le-leb (t .written - t .readSecond) (t .written - t .read) (omega arith))
 
     reach : inReach (depthOf part) s ≡ true
     unfolding inReach
     reach =
         simp (
-          near (s .read .count .0) (t .read) (h .counted .read) (omega arith) (omega arith),
-          near (s .write .first .0) (t .writeFirst) (h .counted .writeFirst) (omega arith) (omega arith),
-          near (s .write .second .0) (t .writeSecond) (h .counted .writeSecond) (omega arith) (omega arith),
-          near (s .read .first .0) (t .readFirst) (h .counted .readFirst) (omega arith) (omega arith),
-          near (s .read .second .0) (t .readSecond) (h .counted .readSecond) (omega arith) (omega arith),
+          near (s .read .count .0) (t .read) (h .tracks .read) (omega arith) (omega arith),
+          near (s .write .first .0) (t .writeFirst) (h .tracks .writeFirst) (omega arith) (omega arith),
+          near (s .write .second .0) (t .writeSecond) (h .tracks .writeSecond) (omega arith) (omega arith),
+          near (s .read .first .0) (t .readFirst) (h .tracks .readFirst) (omega arith) (omega arith),
+          near (s .read .second .0) (t .readSecond) (h .tracks .readSecond) (omega arith) (omega arith),
           ahead-of-read,
         )
 

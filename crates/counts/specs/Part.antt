@@ -17,6 +17,11 @@ partOf number =
     cond (eqb number (numberOf Idt72V255LA)) (Known Idt72V255LA)
     (cond (eqb number (numberOf Idt72V265LA)) (Known Idt72V265LA) Unknown)
 
+-- by whether a number is a part's
+abbrev pub byPart : {A : Type 0} → Lookup → (Part → A) → A → A
+byPart (Known part) known unknown = known part
+byPart Unknown known unknown = unknown
+
 -- a place in memory is told by this many bits
 abbrev pub placeBits : Part → ℕ
 placeBits Idt72V255LA = 13

@@ -15,7 +15,7 @@ use Rattle.counts.specs.Part.{partOf}
 use Rattle.pins.specs.declared.record.Pins.{Pins}
 use Rattle.pins.specs.Record.{pinsOf}
 use Rattle.fifo.specs.declared.sample.Sampled.{Sampled}
-use Rattle.fifo.specs.Sample.{After, Gives, isDepth, recordRefusal, refusedOn, sampled, stepped, taken, turnedAway}
+use Rattle.fifo.specs.Sample.{After, Gives, isDepth, recordRefusal, sampled, stepped, taken, turnedAway}
 
 pub none-past : (words : List ℕ) (place : ℕ) → length words ≤ place → 0 ≡ getD words place 0
 none-past [] place h = refl
@@ -29,14 +29,14 @@ pub gives-refusal : {number : ℕ} {s : State} {r : Sampled} {memory : List ℕ}
     → Gives (turnedAway number s memory) r memory
 gives-refusal e = record { result = e; words = refl }
 
-module _ (part : Part) (x : ℕ) (s : State) (memory : List ℕ) {p : Pins} (e : p ≡ pinsOf x) {number : ℕ} (f : number ≡ refusedOn part x p s) where
-  pub stepped-takes : number ≡ 0 → stepped part x s memory ≡ taken part p s memory
-  unfolding stepped recordRefusal
-  stepped-takes z = rw (← e) (simp (eq-eqb _ _ (sym f ∙ z)))
+module _ (part : Part) (x : ℕ) (s : State) (memory : List ℕ) {number : ℕ} (f : number ≡ recordRefusal part x s) where
+  pub stepped-takes : {p : Pins} → p ≡ pinsOf x → number ≡ 0 → stepped part x s memory ≡ taken part p s memory
+  unfolding stepped
+  stepped-takes e z = rw (← e) (simp (eq-eqb _ _ (sym f ∙ z)))
 
   pub stepped-refuses : (number ≡ 0 → ⊥) → stepped part x s memory ≡ turnedAway number s memory
-  unfolding stepped recordRefusal
-  stepped-refuses n = rw (← e) (rw (← f) (simp (ne-eqb _ _ n)))
+  unfolding stepped
+  stepped-refuses n = rw (← f) (simp (ne-eqb _ _ n))
 
 module _ (number x : ℕ) (s : State) (memory : List ℕ) {looked : Lookup} (e : looked ≡ partOf number) where
   pub sample-unknown : looked ≡ Unknown → sampled number x s memory ≡ turnedAway 1 s memory

@@ -7,10 +7,8 @@ use lib.Dec.{leb}
 use lib.ListN.{length, set}
 use Rattle.chip.specs.declared.state.State.{State}
 use Rattle.chip.specs.State.{passes}
-use Rattle.counts.specs.declared.part.Lookup.{Lookup}
-use Rattle.counts.specs.declared.part.Lookup.the-variants.{Known, Unknown}
 use Rattle.counts.specs.declared.part.Part.{Part}
-use Rattle.counts.specs.Part.{partOf}
+use Rattle.counts.specs.Part.{byPart, partOf}
 use Rattle.pins.specs.Trace.{recordAt, recordsFrom, wholeRecords}
 use Rattle.pins.specs.Trace as trace
 use Rattle.fifo.specs.declared.run.Ran.{Ran}
@@ -90,10 +88,6 @@ worked lenient part bytes g = folded lenient (stepped part) (atEnd bytes) (recor
 -- room for three bytes of answer and, in a lenient run, a mark for each whole record
 abbrev pub roomy : Bool → ℕ → ℕ → ℕ → Bool
 roomy lenient whole answers marks = leb (whole * 3) answers && (not lenient || leb whole marks)
-
-abbrev pub byPart : Lookup → (Part → Ended) → Ended → Ended
-byPart (Known part) known unknown = known part
-byPart Unknown known unknown = unknown
 
 -- 1, 2 and 3 once, before any record, and then the records
 unfoldable pub runOf : Bool → ℕ → List ℕ → Progress → Ended

@@ -10,10 +10,8 @@ use Rattle.chip.specs.declared.state.State.{State}
 use Rattle.chip.specs.Advance.{advanced, stored}
 use Rattle.chip.specs.Refuse.{refusalOf}
 use Rattle.chip.specs.State.{passes}
-use Rattle.counts.specs.declared.part.Lookup.{Lookup}
-use Rattle.counts.specs.declared.part.Lookup.the-variants.{Known, Unknown}
 use Rattle.counts.specs.declared.part.Part.{Part}
-use Rattle.counts.specs.Part.{depthOf, partOf}
+use Rattle.counts.specs.Part.{byPart, depthOf, partOf}
 use Rattle.counts.specs.Round.{placeOf}
 use Rattle.pins.specs.declared.record.Pins.{Pins}
 use Rattle.pins.specs.Record.{bit, pinsOf}
@@ -46,19 +44,15 @@ unfoldable pub taken : Part → Pins → State → List ℕ → After
 taken part p s memory = took (advanced part p (fetchedFor part s memory) s) memory
 
 -- 4 on bit 18, then 5 to 10 on the pins
-abbrev pub refusedOn : Part → ℕ → Pins → State → ℕ
-refusedOn part x p s = cond (bit 18 x) 4 (refusalOf part p s)
-
 unfoldable pub recordRefusal : Part → ℕ → State → ℕ
-recordRefusal part x s = refusedOn part x (pinsOf x) s
+recordRefusal part x s = cond (bit 18 x) 4 (refusalOf part (pinsOf x) s)
+
+abbrev pub RefusesRecord : Part → ℕ → State → ℕ → Type 0
+RefusesRecord part x s r = r ≡ recordRefusal part x s
 
 -- one record, for a part, a memory and a state that have passed 1 to 3
 unfoldable pub stepped : Part → ℕ → State → List ℕ → After
 stepped part x s memory = cond (eqb (recordRefusal part x s) 0) (taken part (pinsOf x) s memory) (turnedAway (recordRefusal part x s) s memory)
-
-abbrev pub byPart : Lookup → (Part → After) → After → After
-byPart (Known part) known unknown = known part
-byPart Unknown known unknown = unknown
 
 -- as many words as the part is deep
 abbrev pub isDepth : Part → ℕ → Bool

@@ -3,10 +3,14 @@ use Prim.Native.Nat.{ℕ}
 use mathlib.Core.List.{List}
 use mathlib.Core.Path.{_≡_, sym, _∙_}
 use Rattle.chip.specs.declared.state.State.{State}
+use Rattle.counts.specs.declared.part.Part.{Part}
 use Rattle.fifo.specs.declared.run.Ran.{Ran}
 use Rattle.fifo.specs.declared.sample.Sampled.{Sampled}
 use Rattle.fifo.specs.Run.{Runs, RunsLenient}
-use Rattle.fifo.specs.Sample.{Samples}
+use Rattle.fifo.specs.Sample.{RefusesRecord, Samples}
+
+pub record-refusal-unique : (part : Part) (x : ℕ) (s : State) (a b : ℕ) → RefusesRecord part x s a → RefusesRecord part x s b → a ≡ b
+record-refusal-unique part x s a b e f = e ∙ sym f
 
 pub sample-unique : (number x : ℕ) (s : State) (memory : List ℕ) (a b : Sampled) (m n : List ℕ)
     → Samples number x s memory a m → Samples number x s memory b n → (a ≡ b) × (m ≡ n)

@@ -1,6 +1,6 @@
 // One sample over a lent memory.
 ghost use Rattle.chip.specs.State.{widths};
-ghost use Rattle.fifo.specs.Sample.{Gives, Samples, Steps, isDepth, refusedOn, taken};
+ghost use Rattle.fifo.specs.Sample.{Gives, Samples, Steps, RefusesRecord, isDepth, taken};
 ghost use mathlib.Core.Bool.{true};
 ghost use mathlib.Core.Path.{_≡_};
 use chip::state::State;
@@ -42,10 +42,9 @@ pub(crate) fn step(part: Part, record: u32, state: State, memory: &mut [u32]) ->
     requires { ⌜ widths part state ≡ true ⌝ }
     ensures { λ r. ⌜ Steps part «record» state (now (memory .entry)) r (now (memory .exit)) ⌝ }
 {
-    let p = pins::record::decode(record);
-    let number = refuse_record(part, record, p, state);
+    let number = refuse_record(part, record, state);
     if number == 0 {
-        take(part, p, state, memory)
+        take(part, pins::record::decode(record), state, memory)
     } else {
         turn_away(number, state)
     }
@@ -57,14 +56,15 @@ pub(crate) fn is_depth(part: Part, words: usize) -> bool
     words == wide(counts::part::depth(part))
 }
 
-fn refuse_record(part: Part, record: u32, p: Pins, state: State) -> u8
-    ensures { λ r. ⌜ r ≡ refusedOn part «record» p state ⌝ }
+// The number, 4 to 10, of the first refusal that applies to a record of four bytes, or 0.
+pub fn refuse_record(part: Part, record: u32, state: State) -> u8
+    ensures { λ r. ⌜ RefusesRecord part «record» state r ⌝ }
 {
     let spare = (record >> 18) % 2 == 1;
     if spare {
         4
     } else {
-        chip::refuse::refusal(part, p, state)
+        chip::refuse::refusal(part, pins::record::decode(record), state)
     }
 }
 

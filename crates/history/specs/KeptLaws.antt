@@ -22,7 +22,7 @@ module _ (part : Part) (m : Moment) (t : TrueCounts) (g : Told part m t) where
   depth-at-most = rw (words-held part (m .state) t (g .reached)) (omega arith)
 
   pub read-place : placeOf (depthOf part) (m .state .read .count .0) ≡ placeOf (depthOf part) (t .read)
-  read-place = rw (g .reached .counted .read) (part-sized part .round (t .read))
+  read-place = rw (g .reached .tracks .read) (part-sized part .round (t .read))
 
   pub remainder-in-memory : drop (length (m .notes .delivered)) (m .notes .accepted)
       ≡ wordsFrom (depthOf part) (m .memory) (m .state .read .count .0) (wordsHeld (m .state))

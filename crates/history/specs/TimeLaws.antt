@@ -14,7 +14,7 @@ use Rattle.pins.specs.Record.{pinsOf}
 use Rattle.sides.specs.declared.read.Mode.{Mode}
 use Rattle.sides.specs.declared.read.Mode.the-variants.{Standard, Fwft}
 use Rattle.sides.specs.Clocks as clocks
-use Rattle.sides.specs.Counted.{trueAfter}
+use Rattle.sides.specs.Tracks.{trueAfter}
 use Rattle.sides.specs.CountLaws.{grows}
 use Rattle.sides.specs.DecisionLaws.{dueBy, ready-due}
 use Rattle.sides.specs.Write as write
@@ -149,7 +149,7 @@ shows-ready : (part : Part) (m : Moment) (t : TrueCounts) (age number : ℕ) →
 shows-ready part m t age number g h l undelivered =
     let due = old-enough (m .state .read .mode) age number t h (rw (g .agrees .fwft) at l) in
     ready-told part m t (g .agrees)
-    ∙ ready-due (depthOf part) (part-sized part) (m .state .write) (m .state .read) t (g .reached .counted) (omega arith)
+    ∙ ready-due (depthOf part) (part-sized part) (m .state .write) (m .state .read) t (g .reached .tracks) (omega arith)
 
 pub due-shown : (part : Part) (m : Moment) (t : TrueCounts) (x : ℕ) (later : List ℕ) → Told part m t → acceptsWord part m x ≡ true
     → let after = led part (next part m x) later in

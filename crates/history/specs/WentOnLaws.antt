@@ -18,7 +18,7 @@ use Rattle.pins.specs.declared.record.Pins.{Pins}
 use Rattle.pins.specs.Record.{word}
 use Rattle.sides.specs.declared.read.Mode.{Mode}
 use Rattle.sides.specs.declared.read.Mode.the-variants.{Standard, Fwft}
-use Rattle.sides.specs.Counted.{nextTrue, trueAfter}
+use Rattle.sides.specs.Tracks.{nextTrue, trueAfter}
 use Rattle.sides.specs.DecisionLaws.{word-left}
 use Rattle.sides.specs.Read as read
 use Rattle.sides.specs.Read.{modeAfter, readAfter}
@@ -87,7 +87,7 @@ module _ (part : Part) (m : Moment) (t : TrueCounts) (g : Told part m t) (p : Pi
   word-delivered : delivered ≡ true → (t .read < length (m .notes .accepted)) × (after .read .output ≡ getD (m .notes .accepted) (t .read) 0)
   unfolding running readAfter
   word-delivered e =
-      let left = word-left (depthOf part) (part-sized part) (m .state .write) (m .state .read) t (g .reached .counted) p e in
+      let left = word-left (depthOf part) (part-sized part) (m .state .write) (m .state .read) t (g .reached .tracks) p e in
       let held = g .agrees .holds (t .read) (omega arith) (omega arith) in
       (omega arith, rw (e, read-place part m t g, held .0) (held .1))
 
@@ -122,7 +122,7 @@ module _ (part : Part) (m : Moment) (t : TrueCounts) (g : Told part m t) (p : Pi
     mode-kept = g .agrees .fwft ∙ kept-fwft (m .state .read .mode) back delivered (read.reads p (m .state .read))
 
     write-place : place ≡ placeOf (depthOf part) (length (m .notes .accepted))
-    write-place = rw (g .reached .counted .written .count, g .agrees .written) (part-sized part .round (t .written))
+    write-place = rw (g .reached .tracks .written .count, g .agrees .written) (part-sized part .round (t .written))
 
     pub agrees-on : Agrees part (at after (stored store (m .memory)) (wentOn (m .notes) p before (shownBy part after)))
         (trueAfter (depthOf part) p (m .state .write) (m .state .read) t)

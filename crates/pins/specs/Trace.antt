@@ -9,9 +9,11 @@ use Rattle.pins.specs.declared.trace.Record.{Record}
 use Rattle.pins.specs.declared.trace.Record.the-variants.{Whole, Leftover, End}
 
 -- four bytes, the first of most weight
+abbrev pub joined : ℕ → ℕ → ℕ → ℕ → ℕ
+joined first second third fourth = first * 2 ^ 24 + second * 2 ^ 16 + third * 2 ^ 8 + fourth
+
 unfoldable pub wordAt : List ℕ → ℕ → ℕ
-wordAt trace at =
-    getD trace at 0 * 2 ^ 24 + getD trace (at + 1) 0 * 2 ^ 16 + getD trace (at + 2) 0 * 2 ^ 8 + getD trace (at + 3) 0
+wordAt trace at = joined (getD trace at 0) (getD trace (at + 1) 0) (getD trace (at + 2) 0) (getD trace (at + 3) 0)
 
 abbrev pub wholeRecords : List ℕ → ℕ
 wholeRecords trace = length trace / 4

@@ -1,6 +1,6 @@
 // Trace sample, on bytes: one record of a trace at a time.
 ghost use Prim.Native.Nat.{_+_, _<_};
-ghost use Rattle.pins.specs.Trace.{Reads, wordAt};
+ghost use Rattle.pins.specs.Trace.{Reads, joined, wordAt};
 ghost use lib.ListN.{length};
 ghost use mathlib.Core.Path.{_≡_};
 
@@ -27,10 +27,13 @@ fn word_at(trace: &[u8], at: usize) -> u32
     requires { ⌜ at + 3 < length (now trace) ⌝ }
     ensures { λ r. ⌜ r ≡ wordAt (now (trace .entry)) at ⌝ }
 {
-    wide(trace[at]) * 16777216
-        + wide(trace[at + 1]) * 65536
-        + wide(trace[at + 2]) * 256
-        + wide(trace[at + 3])
+    word_of(trace[at], trace[at + 1], trace[at + 2], trace[at + 3])
+}
+
+pub fn word_of(first: u8, second: u8, third: u8, fourth: u8) -> u32
+    ensures { λ r. ⌜ r ≡ joined first second third fourth ⌝ }
+{
+    wide(first) * 16777216 + wide(second) * 65536 + wide(third) * 256 + wide(fourth)
 }
 
 fn wide(byte: u8) -> u32

@@ -11,7 +11,7 @@ use Rattle.sides.specs.declared.read.ReadSide.{ReadSide}
 use Rattle.sides.specs.declared.write.WriteSide.{WriteSide}
 use Rattle.sides.specs.AcceptLaws.{may-accept, takes-read}
 use Rattle.sides.specs.Clocks.{readRises, writeRises}
-use Rattle.sides.specs.Counted.{Allowed, Counted, Owes, nextTrue, trueAfter}
+use Rattle.sides.specs.Tracks.{Allowed, Tracks, Owes, nextTrue, trueAfter}
 use Rattle.sides.specs.DecisionLaws.{none-owed, room-left, word-left}
 use Rattle.sides.specs.DeliveryLaws.{may-move, none-still, owes-after}
 use Rattle.sides.specs.Read.{delivers, modeAfter, readAfter, readCountAfter, reads, ready, retransmits, secondAfterRead, seesWord}
@@ -30,7 +30,7 @@ since-now : (rises : Bool) (now before : ℕ) → When rises (now ≤ cond rises
 since-now true now before = omega arith
 since-now false now before = tt
 
-module _ (depth : ℕ) (z : Sized depth) (w : WriteSide) (r : ReadSide) (t : TrueCounts) (g : Counted depth w r t) (p : Pins) (a : Allowed depth p w r t) where
+module _ (depth : ℕ) (z : Sized depth) (w : WriteSide) (r : ReadSide) (t : TrueCounts) (g : Tracks depth w r t) (p : Pins) (a : Allowed depth p w r t) where
   abbrev takenNow : ℕ
   takenNow = across (p .skew .read) (writeSince (r .latest)) (t .written) (t .writtenBefore)
 
@@ -85,9 +85,9 @@ module _ (depth : ℕ) (z : Sized depth) (w : WriteSide) (r : ReadSide) (t : Tru
       owes-after (r .mode) (readRises p r) (p .ld) (p .ren) (p .rt) (seesWord r) (t .threeAgo) (t .fourAgo) (t .read) (g .owes)
       (none-owed depth z w r t g)
 
-  pub counts-stay : (m n fetched : ℕ) → Counted depth (writeAfter depth m p r w) (readAfter n p fetched w r) (trueAfter depth p w r t)
+  pub tracks-on : (m n fetched : ℕ) → Tracks depth (writeAfter depth m p r w) (readAfter n p fetched w r) (trueAfter depth p w r t)
   unfolding writeAfter readAfter trueAfter readCountAfter writeCountAfter secondAfterWrite secondAfterRead
-  counts-stay m n fetched = record {
+  tracks-on m n fetched = record {
     written = tallies-after (t .written) depth m p r w (g .written);
     read = read-round (retransmits p r) (delivers p r) (r .count) (t .read) (g .read);
     writeFirst = stage-round (λ (c : ReadCount). c .0) (writeRises p w) _ (w .first) _ (t .writeFirst)

@@ -14,7 +14,7 @@ use Rattle.sides.specs.declared.read.Mode.{Mode}
 use Rattle.sides.specs.declared.read.Mode.the-variants.{Standard, Fwft}
 use Rattle.sides.specs.declared.read.ReadSide.{ReadSide}
 use Rattle.sides.specs.declared.write.WriteSide.{WriteSide}
-use Rattle.sides.specs.Counted.{Counted, Owes}
+use Rattle.sides.specs.Tracks.{Tracks, Owes}
 use Rattle.sides.specs.DeliveryLaws.{all-delivered, none-unseen}
 use Rattle.sides.specs.Read.{delivers, ready, readyBy, seesWord}
 use Rattle.sides.specs.Write.{full}
@@ -53,7 +53,7 @@ ready-by Standard seen t h o l = h l
 ready-by (Fwft true) seen t h o l = refl
 ready-by (Fwft false) seen t h o l = absurd (omega arith)
 
-module _ (depth : ℕ) (z : Sized depth) (w : WriteSide) (r : ReadSide) (t : TrueCounts) (g : Counted depth w r t) where
+module _ (depth : ℕ) (z : Sized depth) (w : WriteSide) (r : ReadSide) (t : TrueCounts) (g : Tracks depth w r t) where
   pub room-left : full depth w ≡ false → t .written < t .writeSecond + depth
   unfolding full
   room-left e =

@@ -3,7 +3,7 @@ pub mod Read
 pub mod Write
 pub mod Laws
 pub mod SinceReset
-pub mod Counted
+pub mod Tracks
 pub mod RoundLaws
 pub mod DeliveryLaws
 pub mod AcceptLaws

@@ -6,7 +6,7 @@ use native.Mathlib.Omega.{arith}
 use Rattle.counts.specs.declared.round.ReadCount.{ReadCount}
 use Rattle.counts.specs.declared.round.WriteCount.{WriteCount}
 use Rattle.counts.specs.Round.{nextRead, width}
-use Rattle.sides.specs.Counted.{RemembersRead, RemembersWrite, nextTrue}
+use Rattle.sides.specs.Tracks.{RemembersRead, RemembersWrite, nextTrue}
 use Rattle.views.specs.declared.stages.ReadRise.{ReadRise}
 use Rattle.views.specs.declared.stages.ReadRise.the-variants as readRise
 use Rattle.views.specs.declared.stages.WriteRise.{WriteRise}

@@ -97,8 +97,8 @@ abbrev pub When : Bool → Type 0 → Type 0
 When true holds = holds
 When false holds = Unit {0}
 
--- how far the write side may trust its stages, by its view of the last retransmit, by whether that retransmit has only just begun, and by
--- whether RCLK has risen since WCLK's last rise. Until the retransmit is seen they may be ahead of the read count; then memory still has room.
+-- how far the write side may trust its stages, by its view of the last retransmit, by whether that retransmit has only just begun, and
+-- by whether RCLK has risen since WCLK's last rise. Before the retransmit is seen they may be ahead of the read count, but memory has room.
 abbrev pub Sighted : ℕ → View → Bool → Bool → TrueCounts → Type 0
 Sighted depth Seen begun risen t =
     (t .writeSecond ≤ t .writeFirst) × (t .writeFirst ≤ t .read) × When risen ((t .writeFirst ≤ t .readBefore) × (t .readBefore ≤ t .read))

@@ -1,12 +1,15 @@
+use Rattle.fifo.specs.Sample.{recordRefusal}
 use borrow.Author.Needs.{needs}
 use Rattle.fifo.proofs.sample.refuse_record.Statement.{statement}
 use Rattle.fifo.proofs.sample.refuse_record.Tie as tie
 
 returns : tie.Need-returns
+unfolding recordRefusal
 returns c = simp (c .if1 .taken)
 
 returns-2 : tie.Need-returns-2
-returns-2 c = simp (c .refusal .ensures, c .before .if1 .left)
+unfolding recordRefusal
+returns-2 c = simp (c .refusal .ensures, c .before .decode .ensures, c .before .before .if1 .left)
 
 pub refuse-record-spec : {M : Type 1} → statement M
-refuse-record-spec = tie.close (tie.spec (λ c κs. search needs) returns returns-2)
+refuse-record-spec = tie.close (tie.spec (λ c κs. search needs) (λ c κs. search needs) returns returns-2)

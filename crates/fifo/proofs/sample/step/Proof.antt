@@ -6,20 +6,20 @@ use Rattle.fifo.proofs.sample.step.Tie as tie
 
 returns : tie.Need-returns
 returns c =
-    let number = c .before .before .before .before .before in
-    let a = number .before .before .before .args in
+    let decoded = c .before .before .before .before in
+    let number = decoded .before .before in
+    let a = number .before .before .args in
     gives-by
-    (stepped-takes (a .part) (a .«record») (a .state) (now (a .memory)) (number .before .decode .ensures) (number .refuse-record .ensures)
-    (c .before .before .before .before .if1 .taken))
+    (stepped-takes (a .part) (a .«record») (a .state) (now (a .memory)) (number .refuse-record .ensures) (decoded .decode .ensures)
+    (decoded .before .if1 .taken))
     (c .before .before .take .ensures)
 
 returns-2 : tie.Need-returns-2
 returns-2 c =
     let number = c .before .before in
-    let a = number .before .before .before .args in
+    let a = number .before .before .args in
     gives-by
-    (stepped-refuses (a .part) (a .«record») (a .state) (now (a .memory)) (number .before .decode .ensures) (number .refuse-record .ensures)
-    (c .before .if1 .left))
+    (stepped-refuses (a .part) (a .«record») (a .state) (now (a .memory)) (number .refuse-record .ensures) (c .before .if1 .left))
     (gives-refusal (c .turn-away .ensures))
 
 pub step-spec : {M : Type 1} → statement M

@@ -33,7 +33,8 @@ Owes Standard fourAgo read = Unit {0}
 Owes (Fwft true) fourAgo read = Unit {0}
 Owes (Fwft false) fourAgo read = fourAgo ≤ read
 
-pub record Counted (depth : ℕ) (w : WriteSide) (r : ReadSide) (t : TrueCounts) : Type 0 where
+-- counts, stages and remembered rises are the true ones round the width, and the true ones lie in order
+pub record Tracks (depth : ℕ) (w : WriteSide) (r : ReadSide) (t : TrueCounts) : Type 0 where
   pub written : Tallies (t .written) w
   pub read : r .count .0 ≡ t .read % width
   pub writeFirst : w .first .0 ≡ t .writeFirst % width
@@ -46,8 +47,8 @@ pub record Counted (depth : ℕ) (w : WriteSide) (r : ReadSide) (t : TrueCounts)
   pub setting : Setting (r .setup) (t .oneAgo) (t .twoAgo) (t .threeAgo)
   pub owes : Owes (r .mode) (t .fourAgo) (t .read)
 
--- what a sample outside reset must not ask: a write that has not seen the last retransmit; a retransmit of more words than memory has room
--- for besides one, or in one sample with a write
+-- what is asked of a sample outside reset: no write before the last retransmit is seen; a retransmit only of fewer words than memory
+-- holds, and with WEN HIGH
 pub record Allowed (depth : ℕ) (p : Pins) (w : WriteSide) (r : ReadSide) (t : TrueCounts) : Type 0 where
   pub seen : writeRises p w && p .ld && not (p .wen) && not (isSeen (w .view)) ≡ false
   pub few : retransmits p r ≡ true → t .written < depth

@@ -1,0 +1,143 @@
+-- Bench figures, the C call: one sample on a part number and byte buffers.
+use Prim.Native.Nat.{ℕ, _+_, _*_, _<_}
+use mathlib.Core.Bool.{Bool, cond, _&&_}
+use mathlib.Core.List.{List}
+use mathlib.Core.Path.{_≡_}
+use lib.Dec.{eqb}
+use lib.ListN.{length}
+use Rattle.chip.specs.declared.advance.Advanced.{Advanced}
+use Rattle.chip.specs.declared.advance.Store.{Store}
+use Rattle.chip.specs.declared.advance.Store.the-variants.{Keep, Put}
+use Rattle.chip.specs.declared.state.State.{State}
+use Rattle.chip.specs.Advance.{advanced}
+use Rattle.chip.specs.Reset.{poweredUp}
+use Rattle.chip.specs.State.{passes}
+use Rattle.counts.specs.declared.part.Part.{Part}
+use Rattle.counts.specs.Part.{byPart, depthOf, partOf}
+use Rattle.counts.specs.Round.{placeOf}
+use Rattle.fifo.specs.Run.{putAnswer}
+use Rattle.fifo.specs.Sample.{recordRefusal}
+use Rattle.pins.specs.Record.{pinsOf}
+use Rattle.pins.specs.Trace.{wordAt}
+use Rattle.fifo_c.specs.declared.state.Spelt.{Spelt}
+use Rattle.fifo_c.specs.declared.state.Spelt.the-variants.{As, NoState}
+use Rattle.fifo_c.specs.declared.verdict.Verdict.{Verdict}
+use Rattle.fifo_c.specs.declared.verdict.Verdict.the-variants.{Take, Refuse}
+use Rattle.fifo_c.specs.Bytes.{putWord}
+use Rattle.fifo_c.specs.Spelling.{spelling, spelt, stateBytes}
+
+abbrev pub wordSize : ℕ
+wordSize = 4
+
+abbrev pub answerBytes : ℕ
+answerBytes = 3
+
+abbrev pub memoryBytes : Part → ℕ
+memoryBytes part = depthOf part * wordSize
+
+-- what a part number asks for, 0 where it is no part's
+abbrev pub memoryFor : ℕ → ℕ
+memoryFor number = byPart (partOf number) memoryBytes 0
+
+-- not refused 2, on three lengths
+abbrev pub roomy : Part → ℕ → ℕ → ℕ → Bool
+roomy part state memory answer = eqb state stateBytes && eqb memory (memoryBytes part) && eqb answer answerBytes
+
+-- taken, or the number
+abbrev pub verdictOf : ℕ → Part → ℕ → State → Verdict
+verdictOf number part x s = cond (eqb number 0) (Take part x s) (Refuse number)
+
+-- 4 on the record's length, then 4 on bit 18 and 5 to 10
+unfoldable pub onRecord : Part → List ℕ → State → Verdict
+onRecord part bytes s = cond (eqb (length bytes) wordSize) (verdictOf (recordRefusal part (wordAt bytes 0) s) part (wordAt bytes 0) s) (Refuse 4)
+
+-- 3 where the bytes spell no state, and where the state fails its test
+abbrev pub onSpelt : Part → List ℕ → Spelt → Verdict
+onSpelt part bytes (As s) = cond (passes part s) (onRecord part bytes s) (Refuse 3)
+onSpelt part bytes NoState = Refuse 3
+
+-- 1, 2, 3 and 4 to 10, on the record, the state and two lengths
+unfoldable pub judged : ℕ → List ℕ → List ℕ → ℕ → ℕ → Verdict
+judged number bytes state memory answer =
+    byPart (partOf number)
+    (λ part. cond (roomy part (length state) memory answer) (onSpelt part bytes (spelt state)) (Refuse 2))
+    (Refuse 1)
+
+-- what comes back of a call, and every byte of the three buffers after it
+pub record Called : Type 0 where
+  pub code : ℕ
+  pub state : List ℕ
+  pub memory : List ℕ
+  pub answer : List ℕ
+
+-- one word of the memory is fetched, and at most one stored
+abbrev pub fetchedFrom : Part → State → List ℕ → ℕ
+fetchedFrom part s memory = wordAt memory (placeOf (depthOf part) (s .read .count .0) * wordSize)
+
+abbrev pub storedIn : Store → List ℕ → List ℕ
+storedIn Keep memory = memory
+storedIn (Put place word) memory = putWord memory (place * wordSize) word
+
+-- the word to be stored lies in as many bytes
+abbrev pub Within : Store → ℕ → Type 0
+Within Keep bytes = Unit {0}
+Within (Put place word) bytes = place * wordSize + 3 < bytes
+
+abbrev pub took : Advanced → List ℕ → List ℕ → Called
+took a memory answer = record {
+  code = 0;
+  state = spelling (a .state);
+  memory = storedIn (a .store) memory;
+  answer = putAnswer answer 0 (a .answer);
+}
+
+unfoldable pub taken : Part → ℕ → State → List ℕ → List ℕ → Called
+taken part x s memory answer = took (advanced part (pinsOf x) (fetchedFrom part s memory) s) memory answer
+
+-- refused: a number, and no byte moved
+abbrev pub turnedAway : ℕ → List ℕ → List ℕ → List ℕ → Called
+turnedAway number state memory answer = record { code = number; state = state; memory = memory; answer = answer }
+
+-- the refusal's number, 0 for a record to be taken
+abbrev pub numberOf : Verdict → ℕ
+numberOf (Take part x s) = 0
+numberOf (Refuse number) = number
+
+abbrev pub byVerdict : Verdict → List ℕ → List ℕ → List ℕ → Called
+byVerdict (Take part x s) state memory answer = taken part x s memory answer
+byVerdict (Refuse number) state memory answer = turnedAway number state memory answer
+
+unfoldable pub called : ℕ → List ℕ → List ℕ → List ℕ → List ℕ → Called
+called number bytes state memory answer = byVerdict (judged number bytes state (length memory) (length answer)) state memory answer
+
+-- what comes back of powering up, and the state's bytes after it
+pub record Powered : Type 0 where
+  pub code : ℕ
+  pub state : List ℕ
+
+unfoldable pub powered : List ℕ → Powered
+powered state =
+    cond (eqb (length state) stateBytes) (record { code = 0; state = spelling poweredUp }) (record { code = 2; state = state })
+
+-- buffers that are those of a definition
+pub record Takes (expected : Called) (state′ memory′ answer′ : List ℕ) : Type 0 where
+  pub spelled : state′ ≡ expected .state
+  pub words : memory′ ≡ expected .memory
+  pub room : answer′ ≡ expected .answer
+
+-- the promises of the exported functions
+abbrev pub GivesStateBytes : ℕ → Type 0
+GivesStateBytes r = r ≡ stateBytes
+
+abbrev pub GivesMemoryBytes : ℕ → ℕ → Type 0
+GivesMemoryBytes number r = r ≡ memoryFor number
+
+pub record PowersUp (state : List ℕ) (r : ℕ) (state′ : List ℕ) : Type 0 where
+  pub result : r ≡ powered state .code
+  pub spelled : state′ ≡ powered state .state
+
+pub record Calls (number : ℕ) (bytes state memory answer : List ℕ) (r : ℕ) (state′ memory′ answer′ : List ℕ) : Type 0 where
+  pub result : r ≡ called number bytes state memory answer .code
+  pub spelled : state′ ≡ called number bytes state memory answer .state
+  pub words : memory′ ≡ called number bytes state memory answer .memory
+  pub room : answer′ ≡ called number bytes state memory answer .answer

@@ -1,0 +1,10 @@
+pub mod Bytes
+pub mod BytesLaws
+pub mod Marks
+pub mod Spelling
+pub mod MarksLaws
+pub mod SpellingLaws
+pub mod Call
+pub mod CallLaws
+pub mod AsSample
+pub mod Unique

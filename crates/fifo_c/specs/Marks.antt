@@ -1,0 +1,120 @@
+-- The state's bytes, its levels and enums: each as a digit.
+use Prim.Native.Nat.{ℕ, _+_, _*_, _/_, _%_, _^_}
+use mathlib.Core.Bool.{Bool, true, false, cond}
+use lib.Dec.{eqb}
+use Rattle.counts.specs.declared.round.ReadCount.{ReadCount}
+use Rattle.counts.specs.declared.round.WriteCount.{WriteCount}
+use Rattle.chip.specs.declared.state.State.{State}
+use Rattle.offsets.specs.declared.reading.Shows.{Shows}
+use Rattle.offsets.specs.declared.reading.Shows.the-variants.{Register, Offset}
+use Rattle.offsets.specs.declared.registers.Method.{Method}
+use Rattle.offsets.specs.declared.registers.Method.the-variants.{Parallel, Serial}
+use Rattle.offsets.specs.declared.registers.Next.{Next}
+use Rattle.offsets.specs.declared.registers.Next.the-variants.{N, M}
+use Rattle.sides.specs.declared.read.Mode.{Mode}
+use Rattle.sides.specs.declared.read.Mode.the-variants.{Standard, Fwft}
+use Rattle.sides.specs.declared.read.ReadSide.{ReadSide}
+use Rattle.sides.specs.declared.write.WriteSide.{WriteSide}
+use Rattle.views.specs.declared.retransmit.Setup.{Setup}
+use Rattle.views.specs.declared.retransmit.Setup.the-variants.{Over, OneMore, TwoMore}
+use Rattle.views.specs.declared.retransmit.View.{View}
+use Rattle.views.specs.declared.retransmit.View.the-variants.{Unseen, Taken, Seen}
+use Rattle.views.specs.declared.stages.ReadRise.{ReadRise}
+use Rattle.views.specs.declared.stages.ReadRise.the-variants as readRise
+use Rattle.views.specs.declared.stages.WriteRise.{WriteRise}
+use Rattle.views.specs.declared.stages.WriteRise.the-variants as writeRise
+
+abbrev pub digitOf : Bool → ℕ
+digitOf level = cond level 1 0
+
+-- the lowest binary digit
+abbrev pub levelOf : ℕ → Bool
+levelOf marks = eqb (marks % 2) 1
+
+-- the lowest digit of four values
+abbrev pub fourthOf : ℕ → ℕ
+fourthOf marks = marks % 4
+
+abbrev pub viewDigit : View → ℕ
+viewDigit Unseen = 0
+viewDigit Taken = 1
+viewDigit Seen = 2
+
+abbrev pub viewOf : ℕ → View
+viewOf digit = cond (eqb digit 0) Unseen (cond (eqb digit 1) Taken Seen)
+
+abbrev pub setupDigit : Setup → ℕ
+setupDigit Over = 0
+setupDigit OneMore = 1
+setupDigit TwoMore = 2
+
+abbrev pub setupOf : ℕ → Setup
+setupOf digit = cond (eqb digit 0) Over (cond (eqb digit 1) OneMore TwoMore)
+
+abbrev pub modeDigit : Mode → ℕ
+modeDigit Standard = 0
+modeDigit (Fwft untaken) = 1 + digitOf untaken
+
+abbrev pub modeOf : ℕ → Mode
+modeOf digit = cond (eqb digit 0) Standard (Fwft (eqb digit 2))
+
+abbrev pub isSerial : Method → Bool
+isSerial Parallel = false
+isSerial Serial = true
+
+abbrev pub methodOf : Bool → Method
+methodOf serial = cond serial Serial Parallel
+
+abbrev pub isM : Next → Bool
+isM N = false
+isM M = true
+
+abbrev pub nextOf : Bool → Next
+nextOf second = cond second M N
+
+-- whether there is a number beside the digit, that number or 0, and both put together again
+abbrev pub readRose : ReadRise → Bool
+readRose readRise.NoneSince = false
+readRose (readRise.Before count) = true
+
+abbrev pub readBefore : ReadRise → ℕ
+readBefore readRise.NoneSince = 0
+readBefore (readRise.Before count) = count .0
+
+abbrev pub readRiseOf : Bool → ℕ → ReadRise
+readRiseOf rose count = cond rose (readRise.Before (record { 0 = count })) readRise.NoneSince
+
+abbrev pub writeRose : WriteRise → Bool
+writeRose writeRise.NoneSince = false
+writeRose (writeRise.Before count) = true
+
+abbrev pub writeBefore : WriteRise → ℕ
+writeBefore writeRise.NoneSince = 0
+writeBefore (writeRise.Before count) = count .0
+
+abbrev pub writeRiseOf : Bool → ℕ → WriteRise
+writeRiseOf rose count = cond rose (writeRise.Before (record { 0 = count })) writeRise.NoneSince
+
+abbrev pub showsOffset : Shows → Bool
+showsOffset Register = false
+showsOffset (Offset offset) = true
+
+abbrev pub shownOffset : Shows → ℕ
+shownOffset Register = 0
+shownOffset (Offset offset) = offset
+
+abbrev pub showsOf : Bool → ℕ → Shows
+showsOf offset shown = cond offset (Offset shown) Register
+
+-- the digits of the write side, of the read side, and of the rest, each in a byte
+unfoldable pub writeMarks : WriteSide → ℕ
+writeMarks w = digitOf (w .level) + 2 * digitOf (w .wrapped) + 4 * digitOf (readRose (w .latest)) + 8 * digitOf (w .paf) + 16 * viewDigit (w .view)
+
+unfoldable pub readMarks : ReadSide → ℕ
+readMarks r = digitOf (r .level) + 2 * digitOf (writeRose (r .latest)) + 4 * digitOf (r .pae) + 8 * setupDigit (r .setup) + 32 * modeDigit (r .mode)
+
+unfoldable pub otherMarks : State → ℕ
+otherMarks s =
+    digitOf (s .started) + 2 * digitOf (isSerial (s .offsets .method)) + 4 * digitOf (isM (s .offsets .next))
+    + 8 * digitOf (isM (s .reading .next))
+    + 16 * digitOf (showsOffset (s .reading .shows))

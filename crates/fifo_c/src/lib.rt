@@ -1,0 +1,8 @@
+// The model for C: one sample on numbers and byte buffers.
+pub mod bytes;
+pub mod call;
+pub mod marks;
+pub mod memory;
+pub mod spelling;
+pub mod state;
+pub mod verdict;

@@ -1,0 +1,69 @@
+/* One sample at a time of an IDT72V255LA (part 255) or IDT72V265LA (part 265) FIFO.
+ *
+ * Between two samples the model is two buffers that the caller keeps: the state, fifo_state_bytes() of them, and the
+ * memory, fifo_memory_bytes(part) of them. One call works one sample on them.
+ *
+ * No pointer may be null, also where its length is 0, and no two buffers of a call may overlap. Nothing is allocated,
+ * no pointer is kept, and there is no state beside the two buffers: any number of chips can run side by side.
+ */
+#ifndef FIFO_H
+#define FIFO_H
+
+#include <stddef.h>
+#include <stdint.h>
+
+#ifdef __cplusplus
+extern "C" {
+#endif
+
+/* Bytes of a state. They mean nothing to the caller: they are made by fifo_power_up and changed by fifo_sample, and may be
+ * copied and kept. Each state has one spelling. */
+uint32_t fifo_state_bytes(void);
+
+/* Bytes of the memory of a part: four for each word, 32,768 for 255 and 65,536 for 265; 0 for any other number. */
+uint32_t fifo_memory_bytes(uint32_t part);
+
+/* Makes a state that of a chip at power-up, for either part: no Master Reset yet, both clocks HIGH. The memory may then
+ * hold any bytes.
+ *
+ *   state, state_len   room for a state, exactly fifo_state_bytes() long
+ *
+ * Gives 0; or 2 where state_len is another, and then nothing is written. */
+uint32_t fifo_power_up(uint8_t *state, size_t state_len);
+
+/* Works one sample.
+ *
+ *   part                 255 or 265, compared in all its 32 bits; the same for the whole life of a state
+ *   record, record_len   the sample: four bytes, the first of most weight. From bit 31 down: MRS, PRS, WCLK, RCLK, WEN,
+ *                        REN, LD, SEN, RT, FWFT/SI, OE, write skew met, read skew met; bit 18 is 0; then D17 to D0.
+ *                        Pins are levels, 1 for HIGH. A clock rises where its level at the last sample taken was LOW.
+ *   state, state_len     the state, as fifo_power_up or the last call left it
+ *   memory, memory_len   the memory, exactly fifo_memory_bytes(part) long: a word is four bytes, the first of most weight.
+ *                        At most one word is written, with its upper 14 bits 0.
+ *   answer, answer_len   room for the answer, exactly 3 bytes. From bit 23 down: FF/IR, EF/OR, HF, PAE, PAF, driven, and
+ *                        Q17 to Q0, which are 0 where OE is HIGH.
+ *
+ * Gives 0 where the sample is taken: state, memory and answer then hold what follows. Otherwise the number of the first
+ * of these that applies, and no byte of state, memory or answer has changed:
+ *
+ *    1   part is neither 255 nor 265
+ *    2   state_len, memory_len or answer_len is wrong
+ *    3   the state's bytes spell no state, or one that no sample leads to by its widths and counts
+ *    4   record_len is not 4, or bit 18 is set
+ *    5   MRS HIGH, and no Master Reset so far
+ *    6   a clock rises with LD LOW and more than one of WEN, REN and SEN LOW
+ *    7   WCLK rises with LD LOW and WEN LOW under serial loading, or SEN LOW under parallel loading
+ *    8   RCLK rises with RT LOW and REN or WEN LOW
+ *    9   RCLK rises with RT LOW, and the words accepted since the last reset are none, or more than the depth less 2
+ *        (less 1 in fall-through mode)
+ *   10   WCLK rises with LD HIGH and WEN LOW before the write side has seen the last retransmit
+ *
+ * 6 to 10 only with MRS and PRS HIGH. After a refusal the next sample goes on from where the last one taken left off. */
+uint32_t fifo_sample(uint32_t part, const uint8_t *record, size_t record_len, uint8_t *state, size_t state_len,
+                     uint8_t *memory, size_t memory_len, uint8_t *answer, size_t answer_len);
+
+#ifdef __cplusplus
+}
+#endif
+
+#endif
