@@ -11,9 +11,9 @@ use Rattle.counts.specs.PartLaws.{two-at-least}
 use Rattle.pins.specs.declared.record.Pins.{Pins}
 use Rattle.sides.specs.declared.read.Mode.{Mode}
 use Rattle.sides.specs.declared.read.Mode.the-variants.{Standard, Fwft}
-use Rattle.sides.specs.Tracks.{Allowed}
 use Rattle.sides.specs.Read.{retransmits}
 use Rattle.sides.specs.SinceReset.{Tallies}
+use Rattle.sides.specs.Tracks.{Allowed}
 use Rattle.views.specs.TrueCounts.{TrueCounts}
 use Rattle.chip.specs.declared.state.State.{State}
 use Rattle.chip.specs.Refuse.{refusalOf, refusesEight, refusesFive, refusesNine, refusesSeven, refusesSix, refusesTen, retransmitMost}

@@ -14,9 +14,9 @@ use Rattle.pins.specs.Record.{pinsOf}
 use Rattle.sides.specs.declared.read.Mode.{Mode}
 use Rattle.sides.specs.declared.read.Mode.the-variants.{Standard, Fwft}
 use Rattle.sides.specs.Clocks as clocks
-use Rattle.sides.specs.Tracks.{trueAfter}
 use Rattle.sides.specs.CountLaws.{grows}
 use Rattle.sides.specs.DecisionLaws.{dueBy, ready-due}
+use Rattle.sides.specs.Tracks.{trueAfter}
 use Rattle.sides.specs.Write as write
 use Rattle.views.specs.TrueCounts.{TrueCounts, afterRead, afterWrite, noCounts}
 use Rattle.history.specs.EventLaws.{accepts-told, ready-told, retransmits-told, rises-told}

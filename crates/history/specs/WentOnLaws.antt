@@ -18,10 +18,10 @@ use Rattle.pins.specs.declared.record.Pins.{Pins}
 use Rattle.pins.specs.Record.{word}
 use Rattle.sides.specs.declared.read.Mode.{Mode}
 use Rattle.sides.specs.declared.read.Mode.the-variants.{Standard, Fwft}
-use Rattle.sides.specs.Tracks.{nextTrue, trueAfter}
 use Rattle.sides.specs.DecisionLaws.{word-left}
 use Rattle.sides.specs.Read as read
 use Rattle.sides.specs.Read.{modeAfter, readAfter}
+use Rattle.sides.specs.Tracks.{nextTrue, trueAfter}
 use Rattle.sides.specs.Write as write
 use Rattle.sides.specs.Write.{writeAfter}
 use Rattle.views.specs.TrueCounts.{TrueCounts}

@@ -11,12 +11,12 @@ use Rattle.sides.specs.declared.read.ReadSide.{ReadSide}
 use Rattle.sides.specs.declared.write.WriteSide.{WriteSide}
 use Rattle.sides.specs.AcceptLaws.{may-accept, takes-read}
 use Rattle.sides.specs.Clocks.{readRises, writeRises}
-use Rattle.sides.specs.Tracks.{Allowed, Tracks, Owes, nextTrue, trueAfter}
 use Rattle.sides.specs.DecisionLaws.{none-owed, room-left, word-left}
 use Rattle.sides.specs.DeliveryLaws.{may-move, none-still, owes-after}
 use Rattle.sides.specs.Read.{delivers, modeAfter, readAfter, readCountAfter, reads, ready, retransmits, secondAfterRead, seesWord}
 use Rattle.sides.specs.RoundLaws.{read-round, remembers-read, remembers-write, since-read, since-write, stage-round, taken-read, taken-write}
 use Rattle.sides.specs.SinceReset.{tallies-after}
+use Rattle.sides.specs.Tracks.{Allowed, Tracks, Owes, nextTrue, trueAfter}
 use Rattle.sides.specs.Write.{accepts, full, secondAfterWrite, takesAfter, writeAfter, writeCountAfter}
 use Rattle.views.specs.OrderLaws.{ordered-read, ordered-write, setting-after, takes-written}
 use Rattle.views.specs.Retransmit.{justBegun, looked, setupAfter, viewAfter}

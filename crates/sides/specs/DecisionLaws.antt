@@ -14,9 +14,9 @@ use Rattle.sides.specs.declared.read.Mode.{Mode}
 use Rattle.sides.specs.declared.read.Mode.the-variants.{Standard, Fwft}
 use Rattle.sides.specs.declared.read.ReadSide.{ReadSide}
 use Rattle.sides.specs.declared.write.WriteSide.{WriteSide}
-use Rattle.sides.specs.Tracks.{Tracks, Owes}
 use Rattle.sides.specs.DeliveryLaws.{all-delivered, none-unseen}
 use Rattle.sides.specs.Read.{delivers, ready, readyBy, seesWord}
+use Rattle.sides.specs.Tracks.{Tracks, Owes}
 use Rattle.sides.specs.Write.{full}
 use Rattle.views.specs.declared.retransmit.Setup.{Setup}
 use Rattle.views.specs.declared.retransmit.Setup.the-variants.{Over, OneMore, TwoMore}
