@@ -3,12 +3,12 @@
 -- All of it is said of the model's own definition of one sample, from power-up on: for either part, any words in its memory at
 -- power-up, and any samples, of which refused ones are skipped. The words accepted and delivered, the rises of RCLK and the
 -- flag are those that an onlooker tells from pins, flags and output register: Onlooker.antt. Trace.antt says how samples and
--- runs lead from moment to moment.
+-- runs lead from moment to moment, Calls.antt how calls from C do.
 use Prim.Native.Nat.{ℕ, _≤_}
 use mathlib.Core.Bool.{Bool, true, false, cond, true≢false}
 use mathlib.Core.List.{List, _∷_, _++_}
 use mathlib.Core.Logic.{_≢_}
-use mathlib.Core.Path.{_≡_, refl, sym, ap, subst, _∙_}
+use mathlib.Core.Path.{_≡_, refl, sym, subst, _∙_}
 use lib.ListN.{drop, length, length-replicate, take}
 use native.Mathlib.Omega.{arith}
 use Rattle.chip.specs.declared.state.State.{State}
@@ -20,7 +20,14 @@ use Rattle.counts.specs.Part.{depthOf}
 use Rattle.fifo.specs.declared.run.Ran.{Ran}
 use Rattle.fifo.specs.Run.{Ended, ranOf}
 use Rattle.fifo.specs.Sample.{numberOf}
+use Rattle.fifo_c.specs.declared.state.Spelt.the-variants.{As}
+use Rattle.fifo_c.specs.Bytes.{wordsIn}
+use Rattle.fifo_c.specs.Call.{memoryBytes}
+use Rattle.fifo_c.specs.Spelling.{spelt, stateBytes}
+use Rattle.pins.specs.Trace.{wordAt}
 use Rattle.views.specs.TrueCounts.{noCounts}
+use Rattle.history.specs.CallLaws.{Spells, as-outcome, calls-lead, powered-spells, words-deep}
+use Rattle.history.specs.Calls.{Asked, Buffers, callAll, callOf, isSample, poweredOn, samplesOf}
 use Rattle.history.specs.KeptLaws.{depth-at-most, first-delivered, remainder-in-memory}
 use Rattle.history.specs.LedLaws.{outcome-not-three, told-led, told-power-up}
 use Rattle.history.specs.Onlooker.{ready}
@@ -102,32 +109,60 @@ not-at-third =
 -- A run over a trace's bytes, strict or lenient, that goes on from any such moment: `r` and `left` are the result and the memory
 -- that `run` and `run_lenient` promise to hand back. The run leads where the records that it worked lead one by one, and so
 -- the same is true of it.
-module _ (part : Part) (memory : List ℕ) (whole : length memory ≡ depthOf part) (samples : List ℕ) (lenient : Bool) (bytes answers marks : List ℕ) where
-  abbrev start : Moment
-  start = led part (powerUp memory) samples
+module _ (part : Part) (memory : List ℕ) (whole : length memory ≡ depthOf part) where
+  in-time-through : (samples earlier : List ℕ) (x : ℕ) (later : List ℕ) → samples ≡ earlier ++ (x ∷ later)
+      → Waiting 3 4 part (led part (powerUp memory) earlier) x later
+      → let m = led part (powerUp memory) samples in Ready part (m .notes .fwft) (m .state)
+  unfolding led
+  in-time-through samples earlier x later e w =
+      rw (e, led-parts part earlier (x ∷ later) (powerUp memory)) (in-time part memory whole earlier x later w)
 
-  abbrev run : Ended
-  run = runFrom part start lenient bytes answers marks
+  module _ (samples : List ℕ) (lenient : Bool) (bytes answers marks : List ℕ) where
+    abbrev run : Ended
+    run = runFrom part (led part (powerUp memory) samples) lenient bytes answers marks
 
-  module _ (r : Ran) (left : List ℕ) (result : r ≡ ranOf run) (words : left ≡ run .progress .memory) where
-    abbrev end : Moment
-    end = at (r .state) left (led part start (workedOn (r .index) bytes) .notes)
+    module _ (r : Ran) (left : List ℕ) (result : r ≡ ranOf run) (words : left ≡ run .progress .memory) where
+      abbrev worked : List ℕ
+      worked = samples ++ workedOn (r .index) bytes
 
-    pub run-leads : end ≡ led part start (workedOn (r .index) bytes)
-    run-leads =
-        let told = told-led part samples (powerUp memory) noCounts (told-power-up part memory whole) in
-        rw (result, words) (run-led part start _ told lenient bytes answers marks)
+      abbrev end : Moment
+      end = at (r .state) left (led part (powerUp memory) worked .notes)
 
-    pub run-kept : Kept part end
-    run-kept =
-        subst (Kept part) (sym (run-leads ∙ sym (led-parts part samples (workedOn (r .index) bytes) (powerUp memory))))
-        (kept part memory whole (samples ++ workedOn (r .index) bytes))
+      pub run-leads : end ≡ led part (powerUp memory) worked
+      run-leads =
+          let told = told-led part samples (powerUp memory) noCounts (told-power-up part memory whole) in
+          rw (led-parts part samples (workedOn (r .index) bytes) (powerUp memory), result, words)
+          (run-led part (led part (powerUp memory) samples) _ told lenient bytes answers marks)
 
-    pub run-in-time : (earlier : List ℕ) (x : ℕ) (later : List ℕ) → workedOn (r .index) bytes ≡ earlier ++ (x ∷ later)
-        → Waiting 3 4 part (led part start earlier) x later → Ready part (end .notes .fwft) (end .state)
-    unfolding led
-    run-in-time earlier x later e w =
-        let told = told-led part (samples ++ earlier) (powerUp memory) noCounts (told-power-up part memory whole) in
-        subst (λ (m : Moment). Ready part (m .notes .fwft) (m .state)) (sym (run-leads ∙ ap (led part start) e ∙ led-parts part earlier (x ∷ later) start))
-        (due-shown part (led part start earlier) _ x later (rw (led-parts part samples earlier (powerUp memory)) at told)
-        (w .accepted) (w .calm) (w .risen) (w .undelivered))
+      pub run-kept : Kept part end
+      run-kept = subst (Kept part) (sym run-leads) (kept part memory whole worked)
+
+      pub run-in-time : (earlier : List ℕ) (x : ℕ) (later : List ℕ) → worked ≡ earlier ++ (x ∷ later)
+          → Waiting 3 4 part (led part (powerUp memory) earlier) x later → Ready part (end .notes .fwft) (end .state)
+      run-in-time earlier x later e w =
+          subst (λ (m : Moment). Ready part (m .notes .fwft) (m .state)) (sym run-leads) (in-time-through worked earlier x later e w)
+
+-- Calls from C on buffers that `fifo_power_up` has set up: state and memory spell the moment that the calls' records lead to, where
+-- the same is true; and no call that hands in a whole record and a room for its answer is refused 3.
+module _ (part : Part) (state memory : List ℕ) (room : length state ≡ stateBytes) (whole : length memory ≡ memoryBytes part) (calls : List Asked) where
+  abbrev there : Moment
+  there = led part (powerUp (wordsIn memory)) (samplesOf calls)
+
+  abbrev buffers : Buffers
+  buffers = callAll part (poweredOn state memory) calls
+
+  calls-spell : Spells part buffers there
+  calls-spell = calls-lead part calls (poweredOn state memory) (powerUp (wordsIn memory)) (powered-spells part state memory room whole)
+
+  pub call-leads : (spelt (buffers .state) ≡ As (there .state)) × (wordsIn (buffers .memory) ≡ there .memory)
+  call-leads = (calls-spell .spells, calls-spell .words)
+
+  pub call-kept : Kept part there
+  call-kept = kept part (wordsIn memory) (words-deep part memory whole) (samplesOf calls)
+
+  pub call-in-time : (earlier : List ℕ) (x : ℕ) (later : List ℕ) → samplesOf calls ≡ earlier ++ (x ∷ later)
+      → Waiting 3 4 part (led part (powerUp (wordsIn memory)) earlier) x later → Ready part (there .notes .fwft) (there .state)
+  call-in-time = in-time-through part (wordsIn memory) (words-deep part memory whole) (samplesOf calls)
+
+  pub call-never-three : (a : Asked) → isSample a ≡ true → callOf part buffers a .code ≢ 3
+  call-never-three a is e = call-kept .neverThree (wordAt (a .bytes) 0) (sym (as-outcome part buffers a there calls-spell is .number) ∙ e)

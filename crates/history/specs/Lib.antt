@@ -9,5 +9,7 @@ pub mod ToldLaws
 pub mod LedLaws
 pub mod TimeLaws
 pub mod RunLaws
+pub mod Calls
+pub mod CallLaws
 pub mod Tight
 pub mod Histories
