@@ -7,8 +7,7 @@ use mathlib.Core.Path.{_≡_, refl, sym, ap, subst, _∙_}
 use Rattle.chip.specs.declared.state.State.{State}
 use Rattle.fifo_c.specs.declared.spelling.Words.{Words}
 use Rattle.fifo_c.specs.declared.state.Spelt.the-variants.{As, NoState}
-use Rattle.fifo_c.specs.Bytes.{putWord}
-use Rattle.fifo_c.specs.Spelling.{bytesOf, same, spelling, spelt, stateBytes, stateOf, wordsAt, wordsOf}
+use Rattle.fifo_c.specs.Spelling.{bytesOf, putLowFirst, same, spelling, spelt, stateBytes, stateOf, wordsAt, wordsOf}
 use Rattle.fifo_c.specs.SpellingLaws.{put-over, putWords}
 use Rattle.chip.specs.Reset.{poweredUp}
 use Rattle.chip.specs.State.{passes, widths}
@@ -49,9 +48,9 @@ module _ (bytes : List ℕ) {w v : Words} {s : State} {b : Bool} (read : w ≡ w
 
 -- `b1` to `b9`: the bytes after each word put
 pub written : (s : State) (b : List ℕ) {w : Words} {b1 b2 b3 b4 b5 b6 b7 b8 b9 : List ℕ} → w ≡ wordsOf s → length b ≡ stateBytes
-    → b1 ≡ putWord b 0 (w .marks) → b2 ≡ putWord b1 4 (w .write) → b3 ≡ putWord b2 8 (w .«write_second») → b4 ≡ putWord b3 12 (w .read)
-    → b5 ≡ putWord b4 16 (w .«read_second») → b6 ≡ putWord b5 20 (w .offsets) → b7 ≡ putWord b6 24 (w .serial) → b8 ≡ putWord b7 28 (w .shown)
-    → b9 ≡ putWord b8 32 (w .output) → b9 ≡ spelling s
+    → b1 ≡ putLowFirst b 0 (w .marks) → b2 ≡ putLowFirst b1 4 (w .write) → b3 ≡ putLowFirst b2 8 (w .«write_second») → b4 ≡ putLowFirst b3 12 (w .read)
+    → b5 ≡ putLowFirst b4 16 (w .«read_second») → b6 ≡ putLowFirst b5 20 (w .offsets) → b7 ≡ putLowFirst b6 24 (w .serial) → b8 ≡ putLowFirst b7 28 (w .shown)
+    → b9 ≡ putLowFirst b8 32 (w .output) → b9 ≡ spelling s
 unfolding putWords
 written s b {w = w} made room e1 e2 e3 e4 e5 e6 e7 e8 e9 =
     e9 ∙ rw (e8, e7, e6, e5, e4, e3, e2, e1) (put-over w b room) ∙ ap bytesOf made
@@ -137,8 +136,18 @@ module _ (number : ℕ) {looked : Lookup} (e : looked ≡ partOf number) where
 module _ (state : List ℕ) where
   pub powers-up : {s : State} {state′ : List ℕ} → length state ≡ stateBytes → s ≡ poweredUp → state′ ≡ spelling s → PowersUp state 0 state′
   unfolding powered
-  powers-up {s = s} room made spelled = let fits = eq-eqb (length state) stateBytes room in record { result = simp fits; spelled = spelled ∙ ap spelling made ∙ simp fits }
+  powers-up room made spelled =
+      let fits = eq-eqb (length state) stateBytes room in
+      let code : 0 ≡ powered state .code = simp fits in
+      let bytes = spelled ∙ ap spelling made in
+      let same : spelling poweredUp ≡ powered state .state = simp fits in
+      let after = bytes ∙ same in
+      search needs
 
   pub powers-up-refused : (length state ≡ stateBytes → ⊥) → PowersUp state 2 state
   unfolding powered
-  powers-up-refused short = let fails = ne-eqb (length state) stateBytes short in record { result = simp fails; spelled = simp fails }
+  powers-up-refused short =
+      let fails = ne-eqb (length state) stateBytes short in
+      let code : 2 ≡ powered state .code = simp fails in
+      let same : state ≡ powered state .state = simp fails in
+      search needs

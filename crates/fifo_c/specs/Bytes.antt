@@ -1,6 +1,6 @@
 -- Bench figures, the C call: a word is four bytes, the first of most weight.
 use Prim.Native.Nat.{ℕ, _+_, _/_, _%_, _^_}
-use mathlib.Core.List.{List, [], _∷_}
+use mathlib.Core.List.{List}
 use lib.ListN.{set}
 use Rattle.pins.specs.Trace.{recordsFrom, wholeRecords}
 
@@ -9,9 +9,6 @@ byteOf place word = word / 2 ^ place % 2 ^ 8
 
 abbrev pub lowByte : ℕ → ℕ
 lowByte word = word % 2 ^ 8
-
-abbrev pub wordBytes : ℕ → List ℕ
-wordBytes word = byteOf 24 word ∷ byteOf 16 word ∷ byteOf 8 word ∷ lowByte word ∷ []
 
 unfoldable pub putWord : List ℕ → ℕ → ℕ → List ℕ
 putWord bytes at word =

@@ -1,9 +1,7 @@
 -- The state's bytes, its levels and enums: each as a digit.
-use Prim.Native.Nat.{ℕ, _+_, _*_, _/_, _%_, _^_}
+use Prim.Native.Nat.{ℕ, _+_, _*_, _%_}
 use mathlib.Core.Bool.{Bool, true, false, cond}
 use lib.Dec.{eqb}
-use Rattle.counts.specs.declared.round.ReadCount.{ReadCount}
-use Rattle.counts.specs.declared.round.WriteCount.{WriteCount}
 use Rattle.chip.specs.declared.state.State.{State}
 use Rattle.offsets.specs.declared.reading.Shows.{Shows}
 use Rattle.offsets.specs.declared.reading.Shows.the-variants.{Register, Offset}

@@ -1,19 +1,20 @@
 -- The state's bytes: nine words, and the one spelling of each state.
 use Prim.Native.Nat.{ℕ, _+_, _*_, _/_, _%_, _^_}
 use mathlib.Core.Bool.{Bool, cond, _&&_}
-use mathlib.Core.List.{List, _++_}
+use mathlib.Core.List.{List, [], _∷_, _++_}
 use lib.Dec.{eqb}
+use lib.ListN.{getD, set}
 use Rattle.chip.specs.declared.state.State.{State}
 use Rattle.offsets.specs.declared.reading.Reading.{Reading}
 use Rattle.offsets.specs.declared.registers.Offsets.{Offsets}
-use Rattle.pins.specs.Trace.{wordAt}
+use Rattle.pins.specs.Trace.{joined}
 use Rattle.sides.specs.declared.read.ReadSide.{ReadSide}
 use Rattle.sides.specs.declared.write.WriteSide.{WriteSide}
 use Rattle.fifo_c.specs.declared.spelling.Words.{Words}
 use Rattle.fifo_c.specs.declared.state.Spelt.{Spelt}
 use Rattle.fifo_c.specs.declared.state.Spelt.the-variants.{As, NoState}
-use Rattle.fifo_c.specs.Bytes.{lowByte, wordBytes}
-use Rattle.fifo_c.specs.Marks.{fourthOf, isM, levelOf, methodOf, modeOf, nextOf, otherMarks, readBefore, readMarks, readRiseOf, setupOf, shownOffset, showsOf, viewOf, writeBefore, writeMarks, writeRiseOf}
+use Rattle.fifo_c.specs.Bytes.{byteOf, lowByte}
+use Rattle.fifo_c.specs.Marks.{fourthOf, levelOf, methodOf, modeOf, nextOf, otherMarks, readBefore, readMarks, readRiseOf, setupOf, shownOffset, showsOf, viewOf, writeBefore, writeMarks, writeRiseOf}
 
 -- two numbers of 16 bits in a word
 abbrev pub paired : ℕ → ℕ → ℕ
@@ -99,26 +100,41 @@ same a b =
 abbrev pub stateBytes : ℕ
 stateBytes = 36
 
+-- in the state's bytes a word has its byte of least weight first, as the processors that this is built for keep it
+abbrev pub lowFirst : ℕ → List ℕ
+lowFirst word = lowByte word ∷ byteOf 8 word ∷ byteOf 16 word ∷ byteOf 24 word ∷ []
+
+unfoldable pub lowFirstAt : List ℕ → ℕ → ℕ
+lowFirstAt bytes at = joined (getD bytes (at + 3) 0) (getD bytes (at + 2) 0) (getD bytes (at + 1) 0) (getD bytes at 0)
+
 unfoldable pub wordsAt : List ℕ → Words
 wordsAt bytes = record {
-  marks = wordAt bytes 0;
-  write = wordAt bytes 4;
-  «write_second» = wordAt bytes 8;
-  read = wordAt bytes 12;
-  «read_second» = wordAt bytes 16;
-  offsets = wordAt bytes 20;
-  serial = wordAt bytes 24;
-  shown = wordAt bytes 28;
-  output = wordAt bytes 32;
+  marks = lowFirstAt bytes 0;
+  write = lowFirstAt bytes 4;
+  «write_second» = lowFirstAt bytes 8;
+  read = lowFirstAt bytes 12;
+  «read_second» = lowFirstAt bytes 16;
+  offsets = lowFirstAt bytes 20;
+  serial = lowFirstAt bytes 24;
+  shown = lowFirstAt bytes 28;
+  output = lowFirstAt bytes 32;
 }
 
+abbrev pub inOrder : Words → List ℕ
+inOrder w =
+    w .marks ∷ w .write ∷ w .«write_second» ∷ w .read ∷ w .«read_second» ∷ w .offsets ∷ w .serial ∷ w .shown ∷ w .output ∷ []
+
+abbrev pub allLowFirst : List ℕ → List ℕ
+allLowFirst [] = []
+allLowFirst (word ∷ words) = lowFirst word ++ allLowFirst words
+
 unfoldable pub bytesOf : Words → List ℕ
-bytesOf w =
-    wordBytes (w .marks) ++ wordBytes (w .write) ++ wordBytes (w .«write_second») ++ wordBytes (w .read) ++ wordBytes (w .«read_second»)
-    ++ wordBytes (w .offsets)
-    ++ wordBytes (w .serial)
-    ++ wordBytes (w .shown)
-    ++ wordBytes (w .output)
+bytesOf w = allLowFirst (inOrder w)
+
+-- putting one of these words over four bytes
+unfoldable pub putLowFirst : List ℕ → ℕ → ℕ → List ℕ
+putLowFirst bytes at word =
+    set (set (set (set bytes at (lowByte word)) (at + 1) (byteOf 8 word)) (at + 2) (byteOf 16 word)) (at + 3) (byteOf 24 word)
 
 -- how a state is written
 abbrev pub spelling : State → List ℕ

@@ -21,17 +21,16 @@ use Rattle.offsets.specs.Reading.{shownFits}
 use Rattle.fifo_c.specs.declared.state.Spelt.the-variants.{As, NoState}
 use Rattle.fifo_c.specs.MarksLaws.{HalfWord, offsets-again, other-marks-small, read-again, read-marks-small, reading-again, rest-again, write-again, write-marks-small}
 use Rattle.chip.specs.Counted.{Counted, power-up-counted, ReadRemembered, WriteRemembered}
-use Rattle.pins.specs.Trace.{wordAt}
 use Rattle.views.specs.declared.stages.ReadRise.{ReadRise}
 use Rattle.views.specs.declared.stages.ReadRise.the-variants as readRise
 use Rattle.views.specs.declared.stages.WriteRise.{WriteRise}
 use Rattle.views.specs.declared.stages.WriteRise.the-variants as writeRise
 use borrow.Author.Tests.{eq-eqb, eqb-true, ltb-true}
 use Rattle.fifo_c.specs.declared.spelling.Words.{Words}
-use Rattle.fifo_c.specs.Bytes.{byteOf, lowByte, putWord}
+use Rattle.fifo_c.specs.Bytes.{byteOf, lowByte}
 use Rattle.fifo_c.specs.Marks.{levelOf, otherMarks, readBefore, readMarks, readRiseOf, shownOffset, writeBefore, writeMarks, writeRiseOf}
 use Rattle.fifo_c.specs.BytesLaws.{word-again}
-use Rattle.fifo_c.specs.Spelling.{bytesOf, lowOf, readOf, same, spelling, spelt, speltBy, stateBytes, stateOf, wordsAt, wordsOf, writeOf}
+use Rattle.fifo_c.specs.Spelling.{allLowFirst, bytesOf, inOrder, lowFirstAt, lowOf, putLowFirst, readOf, same, spelling, spelt, speltBy, stateBytes, stateOf, wordsAt, wordsOf, writeOf}
 
 -- the first elements of a list, one by one
 abbrev listed : ℕ → (ℕ → ℕ) → List ℕ
@@ -47,12 +46,12 @@ one-by-one (suc many) (x ∷ xs) e = ap (λ (l : List ℕ). x ∷ l) (one-by-one
 -- nine words put one after the other
 unfoldable pub putWords : Words → List ℕ → List ℕ
 putWords w bytes =
-    putWord
-    (putWord
-    (putWord
-    (putWord
-    (putWord
-    (putWord (putWord (putWord (putWord bytes 0 (w .marks)) 4 (w .write)) 8 (w .«write_second»)) 12 (w .read))
+    putLowFirst
+    (putLowFirst
+    (putLowFirst
+    (putLowFirst
+    (putLowFirst
+    (putLowFirst (putLowFirst (putLowFirst (putLowFirst bytes 0 (w .marks)) 4 (w .write)) 8 (w .«write_second»)) 12 (w .read))
     16 (w .«read_second»))
     20 (w .offsets))
     24 (w .serial))
@@ -61,7 +60,7 @@ putWords w bytes =
 
 -- whatever stood there before
 pub put-over : (w : Words) (bytes : List ℕ) → length bytes ≡ stateBytes → putWords w bytes ≡ bytesOf w
-unfolding putWords putWord bytesOf
+unfolding putWords putLowFirst bytesOf
 put-over w bytes e = rw (one-by-one stateBytes bytes e) refl
 
 -- each digit is found again in the sum that it went into
@@ -111,7 +110,7 @@ record SmallWords (w : Words) : Type 0 where
   output : w .output < 2 ^ 32
 
 words-again : (w : Words) → SmallWords w → wordsAt (bytesOf w) ≡ w
-unfolding wordsAt bytesOf wordAt
+unfolding wordsAt bytesOf lowFirstAt
 words-again w h =
     rw (
       word-again (w .marks) (h .marks),
@@ -141,20 +140,20 @@ abbrev pub Bytes : List ℕ → Type 0
 Bytes bytes = (i : ℕ) → getD bytes i 0 < 2 ^ 8
 
 module _ (bytes : List ℕ) (h : Bytes bytes) (i : ℕ) where
-  first-byte : byteOf 24 (wordAt bytes i) ≡ getD bytes i 0
-  unfolding wordAt
+  first-byte : lowByte (lowFirstAt bytes i) ≡ getD bytes i 0
+  unfolding lowFirstAt
   first-byte = omega (arith, h i, h (i + 1), h (i + 2), h (i + 3))
 
-  second-byte : byteOf 16 (wordAt bytes i) ≡ getD bytes (i + 1) 0
-  unfolding wordAt
+  second-byte : byteOf 8 (lowFirstAt bytes i) ≡ getD bytes (i + 1) 0
+  unfolding lowFirstAt
   second-byte = omega (arith, h i, h (i + 1), h (i + 2), h (i + 3))
 
-  third-byte : byteOf 8 (wordAt bytes i) ≡ getD bytes (i + 2) 0
-  unfolding wordAt
+  third-byte : byteOf 16 (lowFirstAt bytes i) ≡ getD bytes (i + 2) 0
+  unfolding lowFirstAt
   third-byte = omega (arith, h i, h (i + 1), h (i + 2), h (i + 3))
 
-  fourth-byte : lowByte (wordAt bytes i) ≡ getD bytes (i + 3) 0
-  unfolding wordAt
+  fourth-byte : byteOf 24 (lowFirstAt bytes i) ≡ getD bytes (i + 3) 0
+  unfolding lowFirstAt
   fourth-byte = omega (arith, h i, h (i + 1), h (i + 2), h (i + 3))
 
 bytes-again : (bytes : List ℕ) → length bytes ≡ stateBytes → Bytes bytes → bytesOf (wordsAt bytes) ≡ bytes
@@ -245,8 +244,8 @@ spelt-as : (own : Bool) (made s : State) → cond own (As made) NoState ≡ As s
 spelt-as true made s e = (refl, cc)
 spelt-as false made s e = let z : _≡_ {A = ℕ} 0 1 = cc in absurd (omega arith)
 
-word-small : (bytes : List ℕ) (i : ℕ) → Bytes bytes → wordAt bytes i < 2 ^ 32
-unfolding wordAt
+word-small : (bytes : List ℕ) (i : ℕ) → Bytes bytes → lowFirstAt bytes i < 2 ^ 32
+unfolding lowFirstAt
 word-small bytes i h = omega (arith, h i, h (i + 1), h (i + 2), h (i + 3))
 
 read-rise-small : (rose : Bool) (count : ℕ) → HalfWord count → ReadRemembered (readRiseOf rose count)
@@ -268,11 +267,11 @@ counts-small bytes h =
       write = omega arith;
       writeFirst = omega arith;
       writeSecond = omega arith;
-      writeLatest = read-rise-small (levelOf (wordAt bytes 0 / 2 ^ 24 / 4)) (lowOf (wordAt bytes 8)) (omega arith);
+      writeLatest = read-rise-small (levelOf (lowFirstAt bytes 0 / 2 ^ 24 / 4)) (lowOf (lowFirstAt bytes 8)) (omega arith);
       read = omega arith;
       readFirst = omega arith;
       readSecond = omega arith;
-      readLatest = write-rise-small (levelOf (wordAt bytes 0 / 2 ^ 16 / 2)) (lowOf (wordAt bytes 16)) (omega arith);
+      readLatest = write-rise-small (levelOf (lowFirstAt bytes 0 / 2 ^ 16 / 2)) (lowOf (lowFirstAt bytes 16)) (omega arith);
     }
 
 module _ (bytes : List ℕ) (s : State) (e : spelt bytes ≡ As s) where
@@ -289,3 +288,24 @@ module _ (bytes : List ℕ) (s : State) (e : spelt bytes ≡ As s) where
 
   pub spelt-counted : Bytes bytes → Counted s
   spelt-counted h = subst Counted (split .1) (counts-small bytes h)
+
+abbrev AllBytes : List ℕ → Type 0
+AllBytes [] = Unit {0}
+AllBytes (x ∷ xs) = (x < 2 ^ 8) × AllBytes xs
+
+each-byte : (bytes : List ℕ) → AllBytes bytes → Bytes bytes
+each-byte [] all i = omega arith
+each-byte (x ∷ xs) all zero = all .0
+each-byte (x ∷ xs) all (suc i) = each-byte xs (all .1) i
+
+all-bytes : (words : List ℕ) → AllBytes (allLowFirst words)
+all-bytes [] = tt
+all-bytes (word ∷ words) = (omega arith, (omega arith, (omega arith, (omega arith, all-bytes words))))
+
+pub spelling-length : (s : State) → length (spelling s) ≡ stateBytes
+unfolding bytesOf
+spelling-length s = refl
+
+pub spelling-bytes : (s : State) → Bytes (spelling s)
+unfolding bytesOf
+spelling-bytes s = each-byte (spelling s) (all-bytes (inOrder (wordsOf s)))

@@ -2,8 +2,8 @@
 ghost use Rattle.fifo_c.specs.Spelling.{spelling, spelt, stateBytes, wordsAt};
 ghost use lib.ListN.{length};
 ghost use mathlib.Core.Path.{_≡_};
-use super::bytes::put_word;
-use super::bytes::word_at;
+use super::bytes::low_first_at;
+use super::bytes::put_low_first;
 use super::spelling::Words;
 use super::spelling::is_same;
 use super::spelling::state_of;
@@ -34,15 +34,15 @@ pub(crate) fn write_state(state: State, bytes: &mut [u8])
     ensures { λ _. ⌜ now (bytes .exit) ≡ spelling state ⌝ }
 {
     let words = words_of(state);
-    put_word(bytes, 0, words.marks);
-    put_word(bytes, 4, words.write);
-    put_word(bytes, 8, words.write_second);
-    put_word(bytes, 12, words.read);
-    put_word(bytes, 16, words.read_second);
-    put_word(bytes, 20, words.offsets);
-    put_word(bytes, 24, words.serial);
-    put_word(bytes, 28, words.shown);
-    put_word(bytes, 32, words.output);
+    put_low_first(bytes, 0, words.marks);
+    put_low_first(bytes, 4, words.write);
+    put_low_first(bytes, 8, words.write_second);
+    put_low_first(bytes, 12, words.read);
+    put_low_first(bytes, 16, words.read_second);
+    put_low_first(bytes, 20, words.offsets);
+    put_low_first(bytes, 24, words.serial);
+    put_low_first(bytes, 28, words.shown);
+    put_low_first(bytes, 32, words.output);
 }
 
 fn words_at(bytes: &[u8]) -> Words
@@ -50,14 +50,14 @@ fn words_at(bytes: &[u8]) -> Words
     ensures { λ r. ⌜ r ≡ wordsAt (now (bytes .entry)) ⌝ }
 {
     Words {
-        marks: word_at(bytes, 0),
-        write: word_at(bytes, 4),
-        write_second: word_at(bytes, 8),
-        read: word_at(bytes, 12),
-        read_second: word_at(bytes, 16),
-        offsets: word_at(bytes, 20),
-        serial: word_at(bytes, 24),
-        shown: word_at(bytes, 28),
-        output: word_at(bytes, 32),
+        marks: low_first_at(bytes, 0),
+        write: low_first_at(bytes, 4),
+        write_second: low_first_at(bytes, 8),
+        read: low_first_at(bytes, 12),
+        read_second: low_first_at(bytes, 16),
+        offsets: low_first_at(bytes, 20),
+        serial: low_first_at(bytes, 24),
+        shown: low_first_at(bytes, 28),
+        output: low_first_at(bytes, 32),
     }
 }

@@ -1,6 +1,5 @@
 // What is turned away, for the C call: every check, before anything is written.
-ghost use Rattle.counts.specs.Part.{depthOf};
-ghost use Rattle.fifo_c.specs.Call.{judged, memoryBytes, onRecord, onSpelt, roomy, verdictOf, wordSize};
+ghost use Rattle.fifo_c.specs.Call.{judged, memoryBytes, onRecord, onSpelt, roomy, verdictOf};
 ghost use Rattle.fifo_c.specs.Spelling.{spelt, stateBytes};
 ghost use lib.ListN.{length};
 ghost use Prim.Native.Nat.{_<_};

@@ -1,5 +1,5 @@
 -- Calls lead where their records lead one by one.
-use Prim.Native.Nat.{ℕ, zero, suc, _*_, _^_, _<_}
+use Prim.Native.Nat.{ℕ, _*_}
 use mathlib.Core.Bool.{Bool, true, false, cond, and-eq-true-iff, true≢false}
 use mathlib.Core.List.{List, [], _∷_}
 use mathlib.Core.Path.{_≡_, refl, sym, subst, _∙_}
@@ -9,7 +9,6 @@ use borrow.Author.Tests.{eq-eqb, eqb-true}
 use native.Mathlib.Omega.{arith}
 use Rattle.chip.specs.declared.advance.Store.{Store}
 use Rattle.chip.specs.declared.advance.Store.the-variants.{Keep, Put}
-use Rattle.chip.specs.declared.state.State.{State}
 use Rattle.chip.specs.Advance.{advanced}
 use Rattle.chip.specs.Counted.{power-up-counted}
 use Rattle.chip.specs.Reset.{poweredUp}
@@ -21,42 +20,17 @@ use Rattle.fifo_c.specs.declared.state.Spelt.the-variants.{As}
 use Rattle.fifo_c.specs.declared.verdict.Verdict.{Verdict}
 use Rattle.fifo_c.specs.declared.verdict.Verdict.the-variants.{Take, Refuse}
 use Rattle.fifo_c.specs.AsSample.{AsSample, call-is-sample}
-use Rattle.fifo_c.specs.Bytes.{byteOf, lowByte, wordsIn}
+use Rattle.fifo_c.specs.Bytes.{wordsIn}
 use Rattle.fifo_c.specs.BytesLaws.{put-length}
 use Rattle.fifo_c.specs.Call.{answerBytes, byVerdict, called, fetchedFrom, judged, memoryBytes, powered, storedIn, taken, wordSize}
 use Rattle.fifo_c.specs.CallLaws.{cleared, roomy-lengths}
-use Rattle.fifo_c.specs.Spelling.{bytesOf, spelling, spelt, stateBytes, wordsOf}
-use Rattle.fifo_c.specs.SpellingLaws.{Bytes, read-back}
+use Rattle.fifo_c.specs.Spelling.{spelt, stateBytes}
+use Rattle.fifo_c.specs.SpellingLaws.{Bytes, read-back, spelling-bytes, spelling-length}
 use Rattle.pins.specs.Record.{pinsOf}
 use Rattle.pins.specs.Trace.{wholeRecords, wordAt}
 use Rattle.pins.specs.TraceLaws.{records-length}
 use Rattle.history.specs.Calls.{Asked, Buffers, callAll, callOf, callOn, isSample, poweredOn, samplesOf}
 use Rattle.history.specs.Trace.{Moment, led, next, outcome, powerUp}
-
--- a spelling is of bytes
-abbrev Small : List ℕ → Type 0
-Small [] = Unit {0}
-Small (x ∷ l) = (x < 2 ^ 8) × Small l
-
-small-bytes : (l : List ℕ) → Small l → Bytes l
-small-bytes [] h i = omega arith
-small-bytes (x ∷ l) h zero = h .0
-small-bytes (x ∷ l) h (suc i) = small-bytes l (h .1) i
-
-word-small : {A : Type 0} (word : ℕ) → A → (byteOf 24 word < 2 ^ 8) × ((byteOf 16 word < 2 ^ 8) × ((byteOf 8 word < 2 ^ 8) × ((lowByte word < 2 ^ 8) × A)))
-word-small word rest = (omega arith, (omega arith, (omega arith, (omega arith, rest))))
-
-spelling-length : (s : State) → length (spelling s) ≡ stateBytes
-unfolding bytesOf
-spelling-length s = refl
-
-spelling-bytes : (s : State) → Bytes (spelling s)
-unfolding bytesOf
-spelling-bytes s =
-    let w = wordsOf s in
-    small-bytes (spelling s)
-    (word-small (w .marks) (word-small (w .write) (word-small (w .«write_second») (word-small (w .read) (word-small (w .«read_second»)
-    (word-small (w .offsets) (word-small (w .serial) (word-small (w .shown) (word-small {A = Unit {0}} (w .output) tt)))))))))
 
 stored-length : (store : Store) (memory : List ℕ) → length (storedIn store memory) ≡ length memory
 stored-length Keep memory = refl

@@ -1,6 +1,4 @@
 use denote.Ref.{now}
-use lib.ListN.{length}
-use mathlib.Core.Path.{sym, _∙_}
 use Rattle.fifo_c.proofs.Laws.{calls-refused, calls-taken, take-may}
 use borrow.Author.Needs.{needs}
 use Rattle.fifo_c.proofs.call.fifo_sample.Statement.{statement}

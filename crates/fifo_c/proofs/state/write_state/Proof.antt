@@ -18,8 +18,8 @@ returns c =
     let q0 = q1 .before .before in
     let a = q0 .before .before in
     written (a .args .state) (now (a .args .bytes)) (q0 .words-of .ensures) (a .pre)
-    (q1 .put-word .ensures) (q2 .put-word2 .ensures) (q3 .put-word3 .ensures) (q4 .put-word4 .ensures) (q5 .put-word5 .ensures)
-    (q6 .put-word6 .ensures) (q7 .put-word7 .ensures) (q8 .put-word8 .ensures) (q9 .put-word9 .ensures)
+    (q1 .put-low-first .ensures) (q2 .put-low-first2 .ensures) (q3 .put-low-first3 .ensures) (q4 .put-low-first4 .ensures) (q5 .put-low-first5 .ensures)
+    (q6 .put-low-first6 .ensures) (q7 .put-low-first7 .ensures) (q8 .put-low-first8 .ensures) (q9 .put-low-first9 .ensures)
 
 pub write-state-spec : {M : Type 1} → statement M
 write-state-spec =

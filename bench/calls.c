@@ -1,0 +1,101 @@
+// calls [NANOSECONDS-255 NANOSECONDS-265]: times the C call and the run against the plain C model in this one process,
+// prints the ratios, then the cost of a record for traces of many lengths. The arguments say what the Rust reference
+// takes for a record of the same traffic on the same processor.
+#include "timing.h"
+
+#include <stdio.h>
+#include <stdlib.h>
+
+enum { RATIO_RECORDS = 1000000, LONGEST = 10000000 };
+enum { PARTS = 2, FILLS = 3, COLUMNS = PARTS * FILLS, LENGTHS = 4, TABLES = 2 };
+
+static const uint32_t numbers[PARTS] = {255, 265};
+static const char *const fills[FILLS] = {[TRAFFIC_EMPTY] = "empty", [TRAFFIC_SWEPT] = "swept", [TRAFFIC_FULL] = "full"};
+static const size_t lengths[LENGTHS] = {10000, 100000, 1000000, LONGEST};
+
+struct row {
+    double of[PARTS];
+};
+
+static struct row ratio(struct row row, struct row other)
+{
+    for (int part = 0; part < PARTS; part++)
+        row.of[part] /= other.of[part];
+    return row;
+}
+
+static void print_row(const char *name, struct row row, const char *goal)
+{
+    printf("%-28s", name);
+    for (int part = 0; part < PARTS; part++)
+        printf("%9.2f", row.of[part]);
+    printf("   %s\n", goal);
+}
+
+static void measure(struct job *job, struct row cost[MODELS])
+{
+    for (int part = 0; part < PARTS; part++) {
+        size_t opening = put_trace(job, numbers[part], TRAFFIC_SWEPT, RATIO_RECORDS);
+        compare_answers(job, opening + RATIO_RECORDS);
+        for (int i = 0; i < MODELS; i++)
+            cost[i].of[part] = nanoseconds(&models[i], job, opening, RATIO_RECORDS);
+    }
+}
+
+static void print_ratios(const struct row cost[MODELS])
+{
+    printf("%d records, memory swept from empty to full and back\n%-28s%9u%9u\n", RATIO_RECORDS, "part", numbers[0],
+           numbers[1]);
+    for (int i = 0; i < MODELS; i++)
+        print_row(models[i].name, cost[i], "ns a record");
+    print_row("C call / plain C model", ratio(cost[C_CALL], cost[PLAIN_MODEL]), "goal 1.00");
+    print_row("run / plain C model", ratio(cost[RUN], cost[PLAIN_MODEL]), "goal 0.50");
+    print_row("run / plain C run", ratio(cost[RUN], cost[PLAIN_RUN]), "");
+}
+
+static void print_reference_ratios(const struct row cost[MODELS], struct row reference)
+{
+    print_row("Rust reference", reference, "ns a record");
+    print_row("plain C model / Rust", ratio(cost[PLAIN_MODEL], reference), "");
+    print_row("C call / Rust reference", ratio(cost[C_CALL], reference), "");
+    print_row("run / Rust reference", ratio(cost[RUN], reference), "");
+}
+
+static void print_table(const char *name, double cells[LENGTHS][COLUMNS])
+{
+    printf("\n%s: ns a record\n%10s", name, "records");
+    for (int column = 0; column < COLUMNS; column++)
+        printf("%5u %-5s", numbers[column / FILLS], fills[column % FILLS]);
+    for (int length = 0; length < LENGTHS; length++) {
+        printf("\n%10zu", lengths[length]);
+        for (int column = 0; column < COLUMNS; column++)
+            printf("%9.1f  ", cells[length][column]);
+    }
+    puts("");
+}
+
+static void print_tables(struct job *job)
+{
+    const int timed[TABLES] = {C_CALL, RUN};
+    double cells[TABLES][LENGTHS][COLUMNS];
+    for (int column = 0; column < COLUMNS; column++) {
+        size_t opening = put_trace(job, numbers[column / FILLS], (enum traffic_fill)(column % FILLS), LONGEST);
+        for (int length = 0; length < LENGTHS; length++)
+            for (int i = 0; i < TABLES; i++)
+                cells[i][length][column] = nanoseconds(&models[timed[i]], job, opening, lengths[length]);
+    }
+    for (int i = 0; i < TABLES; i++)
+        print_table(models[timed[i]].name, cells[i]);
+}
+
+int main(int count, char **arguments)
+{
+    struct row cost[MODELS];
+    struct job job = new_job(LONGEST);
+    measure(&job, cost);
+    print_ratios(cost);
+    if (count == 1 + PARTS)
+        print_reference_ratios(cost, (struct row){{strtod(arguments[1], NULL), strtod(arguments[2], NULL)}});
+    print_tables(&job);
+    return 0;
+}

@@ -1,0 +1,27 @@
+// The ways to work a trace that are timed against each other.
+#ifndef CONTESTANTS_H
+#define CONTESTANTS_H
+
+#include <stddef.h>
+#include <stdint.h>
+
+struct job {
+    uint32_t number;
+    uint32_t depth;
+    uint8_t *trace;
+    uint8_t *answers;
+    uint32_t *words;
+    uint8_t *memory;
+    uint8_t *state;
+};
+
+// `work` begins at power-up and gives the number of records taken.
+struct model {
+    const char *name;
+    size_t (*work)(const struct job *job, size_t records);
+};
+
+enum { PLAIN_MODEL, PLAIN_RUN, C_CALL, RUN, MODELS };
+extern const struct model models[MODELS];
+
+#endif

@@ -1,0 +1,28 @@
+//! What the reference takes for a record of the trace on standard input, in nanoseconds.
+
+use std::process::ExitCode;
+use std::time::Instant;
+
+use reference::model::{Model, Outcome};
+use reference::part::Part;
+
+const REPEATS: usize = 3;
+
+fn seconds(part: Part, records: &[u32]) -> f64 {
+    let mut model = Model::power_up(part);
+    let mut memory = vec![0; part.depth as usize];
+    let start = Instant::now();
+    let taken = |&record: &u32| matches!(model.sample(record, &mut memory), Outcome::Taken(_));
+    assert!(records.iter().all(taken), "the traffic is legal");
+    start.elapsed().as_secs_f64()
+}
+
+fn main() -> ExitCode {
+    let Some((part, records)) = bench::read() else {
+        eprintln!("time: a trace of a known part comes on standard input");
+        return ExitCode::FAILURE;
+    };
+    let smallest = (0..REPEATS).map(|_| seconds(part, &records)).fold(f64::INFINITY, f64::min);
+    println!("{:.1}", 1e9 * smallest / records.len() as f64);
+    ExitCode::SUCCESS
+}

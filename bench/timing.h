@@ -1,0 +1,20 @@
+// The time that a model takes for a record.
+#ifndef TIMING_H
+#define TIMING_H
+
+#include "contestants.h"
+#include "traffic.h"
+
+// With room for a trace of so many records of traffic, on either part.
+struct job new_job(size_t records);
+
+// The number of records in the opening, before the traffic.
+size_t put_trace(struct job *job, uint32_t number, enum traffic_fill fill, size_t records);
+
+// Ends the program unless all models give the same answers.
+void compare_answers(const struct job *job, size_t records);
+
+// For a record of the traffic; the time of the opening is taken off.
+double nanoseconds(const struct model *model, const struct job *job, size_t opening, size_t records);
+
+#endif

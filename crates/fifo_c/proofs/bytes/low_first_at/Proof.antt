@@ -1,0 +1,22 @@
+use Rattle.fifo_c.specs.Spelling.{lowFirstAt}
+use borrow.Author.Needs.{needs}
+use Rattle.fifo_c.proofs.bytes.low_first_at.Statement.{statement}
+use Rattle.fifo_c.proofs.bytes.low_first_at.Tie as tie
+
+returns : tie.Need-returns
+unfolding lowFirstAt
+returns c = simp (c .word-of .ensures)
+
+pub low-first-at-spec : {M : Type 1} → statement M
+low-first-at-spec =
+    tie.close
+    (tie.spec
+    (λ c. search needs)
+    (λ c. search needs)
+    (λ c. search needs)
+    (λ c. search needs)
+    (λ c. search needs)
+    (λ c. search needs)
+    (λ c. search needs)
+    (λ c κs. search needs)
+    returns)

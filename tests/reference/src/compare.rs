@@ -1,0 +1,120 @@
+//! The reference against the library and against the trace program, on many traces.
+
+use std::time::Duration;
+
+use crate::corners::Corners;
+use crate::library::{Difference, Library};
+use crate::plans::{jobs, Amount};
+use crate::program::{expected, printed, Launch};
+use crate::random::Random;
+use crate::shrink::shrunk;
+use crate::trace::{generated, Step, Trace};
+
+const FOR_SHRINKING: Duration = Duration::from_secs(20);
+
+/// More steps than this are not printed.
+const READABLE: usize = 64;
+
+/// A trace on which the two differ, made small: as an input of the trace program, and in words.
+pub struct Counterexample {
+    pub input: Vec<u8>,
+    pub words: String,
+}
+
+pub fn library(library: &mut Library, amount: Amount, seed: u64, corners: &mut Corners) -> Option<Counterexample> {
+    let mut random = Random::new(seed);
+    for job in jobs(amount, &mut random) {
+        let (trace, told) = generated(job, true, random.draw(), corners);
+        if let Some(difference) = library.difference(&trace, &told) {
+            return Some(smallest_trace(library, trace, difference));
+        }
+    }
+    None
+}
+
+fn smallest_trace(library: &mut Library, trace: Trace, difference: Difference) -> Counterexample {
+    let part = trace.part;
+    let last = trace.steps.iter().enumerate().filter(|(_, step)| matches!(step, Step::Record(_)));
+    let end = last.map(|(place, _)| place + 1).nth(difference.records - 1).unwrap_or(trace.steps.len());
+    let mut words = difference.words;
+    let steps = shrunk(trace.steps[..end].to_vec(), FOR_SHRINKING, |steps| {
+        let trace = Trace { part, steps: steps.to_vec() };
+        match library.difference(&trace, &trace.told()) {
+            Some(difference) => {
+                words = difference.words;
+                true
+            }
+            None => false,
+        }
+    });
+    let listed: Vec<String> = steps.iter().take(READABLE).map(|step| format!("{step:08X?}")).collect();
+    let trace = Trace { part, steps };
+    let words = format!("C call, part {}, {} steps: {}\n{words}", part.number, trace.steps.len(), listed.join(" "));
+    Counterexample { input: trace.input(), words }
+}
+
+pub fn program(launch: &Launch, amount: Amount, seed: u64, corners: &mut Corners) -> Option<Counterexample> {
+    let mut random = Random::new(seed);
+    let mut inputs = odd_inputs();
+    for job in jobs(amount, &mut random) {
+        let (trace, _) = generated(job, false, random.draw(), &mut Corners::default());
+        let mut input = trace.input();
+        if random.one_in(3) {
+            damage(&mut input, &mut random);
+        }
+        inputs.push(input);
+        while let Some(input) = inputs.pop() {
+            let lenient = random.one_in(3);
+            if expected(&input, lenient, corners) != printed(launch, &input, lenient) {
+                return Some(smallest_input(launch, input, lenient));
+            }
+        }
+    }
+    None
+}
+
+/// Inputs that hold no trace, or none to its end.
+fn odd_inputs() -> Vec<Vec<u8>> {
+    let mut inputs = vec![vec![], vec![0], vec![0xFF], vec![0, 0], vec![0xFF, 0], vec![1, 0xFF, 0, 0, 0, 0]];
+    for part in [[0, 0xFF], [1, 9]] {
+        let reset = [0x4D, 0x98, 0, 0];
+        for left_over in 0..4 {
+            inputs.push([&part[..], &reset[..left_over]].concat());
+            inputs.push([&part[..], &reset[..], &reset[..left_over]].concat());
+        }
+    }
+    inputs
+}
+
+/// One bit turned over, one byte too few or too many, or the end lost.
+fn damage(input: &mut Vec<u8>, random: &mut Random) {
+    let place = random.below(input.len() as u64) as usize;
+    match random.below(4) {
+        0 => input[place] ^= 1 << random.below(8),
+        1 => drop(input.remove(place)),
+        2 => input.insert(place, random.bits() as u8),
+        _ => input.truncate(place),
+    }
+}
+
+fn smallest_input(launch: &Launch, input: Vec<u8>, lenient: bool) -> Counterexample {
+    let told = |input: &[u8]| expected(input, lenient, &mut Corners::default());
+    let (part, records) = input.split_at(input.len().min(2));
+    let records: Vec<&[u8]> = records.chunks(4).collect();
+    let whole = |records: &[&[u8]]| [part, &records.concat()].concat();
+    let first = first_difference(&told(&input), &printed(launch, &input, lenient));
+    let cut = records[..records.len().min(first + 1)].to_vec();
+    let differs = |records: &[&[u8]]| told(&whole(records)) != printed(launch, &whole(records), lenient);
+    let records = if differs(&cut) { shrunk(cut, FOR_SHRINKING, differs) } else { records };
+    let input = whole(&records);
+    let hex: String = input.iter().take(4 * READABLE).map(|byte| format!("{byte:02X}")).collect();
+    let (ours, theirs) = (told(&input), printed(launch, &input, lenient));
+    let line = first_difference(&ours, &theirs);
+    let (our, their) = (ours.lines().nth(line), theirs.lines().nth(line));
+    let words = format!("trace program, lenient {lenient}: {hex}\nline {line}: expected {our:?}, got {their:?}");
+    Counterexample { input, words }
+}
+
+fn first_difference(ours: &str, theirs: &str) -> usize {
+    ours.lines().zip(theirs.lines()).take_while(|(our, their)| our == their).count()
+}

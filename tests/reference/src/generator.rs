@@ -1,0 +1,136 @@
+//! Makes the records of a trace one by one, with an eye on the model that takes them.
+
+use crate::model::{Mode, Model};
+use crate::pins::Pins;
+use crate::random::Random;
+use crate::refusals::refusal;
+use crate::scenes::{calm, clocks, Pace, Scene, PACES, WRITING};
+use crate::steering::{places_held, places_written, spoil};
+
+#[derive(Clone, Copy, Debug)]
+pub struct Plan {
+    pub mode: Mode,
+    /// One in so many samples is meant to be refused; never, where it is 0.
+    pub spoiled: u64,
+    /// Whether the trace is long enough to fill the part.
+    pub far: bool,
+    /// What the trace goes for at once.
+    pub first: Scene,
+}
+
+pub struct Generator {
+    random: Random,
+    plan: Plan,
+    scene: Scene,
+    pace: Pace,
+    missed: u64,
+    left: u64,
+}
+
+impl Generator {
+    pub fn new(plan: Plan, random: Random) -> Generator {
+        let (scene, left) = (plan.first, if plan.far { 600 } else { 20 });
+        Generator { random, plan, scene, pace: Pace::Together, missed: 4, left }
+    }
+
+    pub fn next(&mut self, model: &Model) -> u32 {
+        let pins = if !model.started() {
+            self.first(model)
+        } else if self.plan.spoiled > 0 {
+            self.proposal(model)
+        } else {
+            let legal = (0..8).map(|_| self.proposal(model)).find(|&pins| refusal(model, pins).is_none());
+            legal.unwrap_or_else(|| calm(model))
+        };
+        pins.record()
+    }
+
+    /// Nothing but a Master Reset is taken at first.
+    fn first(&mut self, model: &Model) -> Pins {
+        if self.plan.spoiled > 0 && self.random.one_in(self.plan.spoiled) {
+            Pins { mrs: true, prs: self.random.flip(), ..Pins::of(self.random.bits()) }
+        } else {
+            self.master_reset(model)
+        }
+    }
+
+    fn master_reset(&mut self, model: &Model) -> Pins {
+        let fwft_si = self.plan.mode == Mode::FallThrough;
+        let (ld, wclk, rclk) = (self.random.flip(), self.random.flip(), self.random.flip());
+        Pins { mrs: false, prs: self.random.flip(), fwft_si, ld, wclk, rclk, ..calm(model) }
+    }
+
+    fn proposal(&mut self, model: &Model) -> Pins {
+        let arrived = self.scene.arrived(model);
+        if arrived {
+            self.turn_over(model);
+        }
+        let mut pins = self.idle(model, arrived);
+        self.scene.play(&mut pins, model, &mut self.random);
+        if arrived && self.plan.spoiled > 0 && self.random.one_in(self.plan.spoiled) {
+            let often = if model.retransmit_seen() { 9 } else { 10 };
+            let number = self.random.pick(&[4, 6, 7, 8, 9, 10, often]);
+            spoil(number, &mut pins, model, &mut self.random);
+        }
+        pins
+    }
+
+    /// A sample in which the clocks move and nothing is asked for. On the way to a place the clocks take the short way.
+    fn idle(&mut self, model: &Model, arrived: bool) -> Pins {
+        let pace = if arrived { self.pace } else { self.scene.way_there(model) };
+        let (wclk, rclk) = clocks(pace, model, &mut self.random);
+        Pins {
+            wclk,
+            rclk,
+            oe: self.random.one_in(8),
+            fwft_si: self.random.flip(),
+            write_skew_met: !self.random.one_in(self.missed),
+            read_skew_met: !self.random.one_in(self.missed),
+            data: self.random.bits() >> 14,
+            ..calm(model)
+        }
+    }
+
+    fn turn_over(&mut self, model: &Model) {
+        if self.left > 0 {
+            self.left -= 1;
+            return;
+        }
+        self.scene = self.next_scene(model);
+        self.pace = match self.scene {
+            Scene::Loading { .. } => self.random.pick(&WRITING),
+            _ => self.random.pick(&PACES),
+        };
+        self.missed = self.random.pick(&[1, 2, 2, 4, 1_000]);
+        self.left = match self.scene {
+            Scene::Resets => self.random.below(4),
+            Scene::Loading { .. } => 60 + self.random.below(160),
+            _ => 4 + self.random.below(if self.plan.far { 400 } else { 60 }),
+        };
+    }
+
+    /// A reset loses the words that a long trace was at pains to write, so it is rarer there.
+    fn next_scene(&mut self, model: &Model) -> Scene {
+        let reset_odds = if self.plan.far { 60 } else { 8 };
+        if self.random.one_in(reset_odds) {
+            return Scene::Resets;
+        }
+        match self.random.below(8) {
+            0..=2 => Scene::Hover { held: self.random.pick(&places_held(model, self.plan.far)) },
+            3 => Scene::Verge { written: self.random.pick(&places_written(model, self.plan.far)) },
+            4 => Scene::Retransmits,
+            5 => self.next_loading(model),
+            6 => Scene::OffsetReadings,
+            _ => Scene::Noise,
+        }
+    }
+
+    /// One offset at which the words now held are more, and one at which they are not, make the almost-flags move.
+    fn next_loading(&mut self, model: &Model) -> Scene {
+        let (depth, held) = (model.part.depth, model.held());
+        let low = self.random.pick(&[0, 1, held.saturating_sub(1), (depth - held) % depth]);
+        let high = self.random.pick(&[held % depth, depth / 2, depth - 4, depth - 1]);
+        let (n, m) = if self.random.flip() { (low, high) } else { (high, low) };
+        Scene::Loading { n, m }
+    }
+}

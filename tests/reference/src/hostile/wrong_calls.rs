@@ -1,0 +1,100 @@
+//! Wrong parts and wrong lengths, at states that were reached, so that the number is known.
+
+use std::io::Result;
+
+use super::Hostile;
+use crate::generator::Generator;
+use crate::library::{Call, Reply};
+use crate::model::Model;
+use crate::part::PARTS;
+
+impl Hostile<'_> {
+    pub(super) fn lengths_of_power_up(&mut self) -> Result<()> {
+        let length = self.wrong_length(self.state_bytes);
+        let told = self.library.power_up_of(length)?;
+        self.judge((2, 0) == told, || format!("power-up of {length} bytes gave {told:?}"));
+        Ok(())
+    }
+
+    pub(super) fn part_numbers(&mut self) -> Result<()> {
+        let part = self.wrong_part();
+        let bytes = self.library.memory_bytes(part)?;
+        self.judge(bytes == 0, || format!("memory of part {part} is said to have {bytes} bytes"));
+        for part in PARTS {
+            let bytes = self.library.memory_bytes(u32::from(part.number))?;
+            self.judge(u64::from(bytes) == 4 * part.depth, || format!("{part:?} is said to have {bytes} bytes"));
+        }
+        Ok(())
+    }
+
+    pub(super) fn calls_between(
+        &mut self,
+        generator: &mut Generator,
+        model: &mut Model,
+        memory: &mut [u32],
+    ) -> Result<()> {
+        let (mut calls, mut numbers) = (Vec::new(), Vec::new());
+        for _ in 0..self.random.below(300) {
+            let mut call = self.right_call(model.part, generator.next(model));
+            let spoiled = self.random.flip().then(|| self.spoil(&mut call));
+            calls.push(call);
+            numbers.push(match spoiled {
+                Some(number) => Reply { number, answer: 0, moved: 0 },
+                None => Reply::told(model.sample(call.record, memory)),
+            });
+        }
+        let replies = self.library.watched(&calls)?;
+        for ((call, expected), reply) in calls.iter().zip(&numbers).zip(&replies) {
+            self.count(reply);
+            self.judge(expected == reply, || format!("{call:X?}: expected {expected:X?}, got {reply:X?}"));
+        }
+        Ok(())
+    }
+
+    /// Makes one or more things wrong, and gives the number that comes of it: the first in the order of the table.
+    fn spoil(&mut self, call: &mut Call) -> u32 {
+        let wrongs = 1 + self.random.below(31);
+        let mut number = 4;
+        if wrongs & 1 != 0 {
+            call.record_length = self.wrong_length(4);
+        }
+        for (bit, right) in [(2, self.state_bytes), (4, call.memory_length), (8, 3)] {
+            if wrongs & bit != 0 {
+                let wrong = self.wrong_length(right);
+                match bit {
+                    2 => call.state_length = wrong,
+                    4 => call.memory_length = wrong,
+                    _ => call.answer_length = wrong,
+                }
+                number = 2;
+            }
+        }
+        if wrongs & 16 != 0 {
+            call.part = self.wrong_part();
+            number = 1;
+        }
+        number
+    }
+
+    /// Near the right length, far from it, and right but for bits that a narrower number would not hold.
+    pub(super) fn wrong_length(&mut self, right: u64) -> u64 {
+        let other = PARTS.map(|part| 4 * part.depth);
+        let thrown = self.random.below(2 * right);
+        let near = [right - 1, right + 1, right / 2, 2 * right, 0, thrown, other[0], other[1]];
+        let wide = [right + (1 << 32), right + (1 << 16), right + (1 << 8), right | 1 << 63];
+        let from = if self.random.one_in(4) { &wide[..] } else { &near[..] };
+        let length = self.random.pick(from);
+        if length == right {
+            right + 1
+        } else {
+            length
+        }
+    }
+
+    fn wrong_part(&mut self) -> u32 {
+        let right = u32::from(self.random.pick(&PARTS).number);
+        let high = right | 1 << (9 + self.random.below(23));
+        let thrown = self.random.bits() | 1 << 10;
+        self.random.pick(&[0, 1, 254, 256, 264, 266, right.swap_bytes(), high, thrown])
+    }
+}

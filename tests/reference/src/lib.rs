@@ -1,0 +1,26 @@
+//! A second model of the FIFOs, written from the scope paper alone and in another shape than the proved one: the counts
+//! have no width, no stage is carried, and whatever a side sees is looked up in the history of rises since the reset.
+//!
+//! The model: `part`, `pins`, `history`, `offsets`, `refusals`, `model`. What it is tried on: `random`, `scenes`,
+//! `steering`, `generator`, `plans`, `trace`; and what of that has been come through: `corners`, `watch`. The others that
+//! it is compared with: `program`, `library`, `hostile`, `compare`, `shrink`.
+
+pub mod compare;
+pub mod corners;
+pub mod generator;
+pub mod history;
+pub mod hostile;
+pub mod library;
+pub mod model;
+pub mod offsets;
+pub mod part;
+pub mod pins;
+pub mod plans;
+pub mod program;
+pub mod random;
+pub mod refusals;
+pub mod scenes;
+pub mod shrink;
+pub mod steering;
+pub mod trace;
+pub mod watch;

@@ -1,0 +1,111 @@
+//! Tries the built library and the trace program against the reference: reference SEED AMOUNT NATIVE TRACE DRIVER.
+//! A counterexample is also left next to the driver, as an input of the trace program.
+
+use std::env;
+use std::fs;
+use std::path::Path;
+use std::process::ExitCode;
+use std::thread;
+use std::time::Instant;
+
+use reference::compare::{self, Counterexample};
+use reference::corners::Corners;
+use reference::hostile::{Hostile, Tally};
+use reference::library::Library;
+use reference::plans::Amount;
+use reference::program::Launch;
+use reference::random::Random;
+
+struct Settings {
+    seed: u64,
+    amount: usize,
+    trace: Launch,
+    driver: Launch,
+}
+
+/// What one of the two comparisons came to.
+#[derive(Default)]
+struct Finding {
+    corners: Corners,
+    wrong: Option<Counterexample>,
+}
+
+fn settings() -> Option<Settings> {
+    let arguments: Vec<String> = env::args().skip(1).collect();
+    let [seed, amount, native, trace, driver] = arguments.as_slice() else {
+        return None;
+    };
+    let launch = |program: &String| Launch { native: native.clone(), program: program.clone() };
+    let (seed, amount) = (seed.parse().ok()?, amount.parse().ok()?);
+    Some(Settings { seed, amount, trace: launch(trace), driver: launch(driver) })
+}
+
+fn try_library(settings: &Settings, seed: u64) -> (Finding, Tally) {
+    let mut library = Library::new(settings.driver.clone());
+    let mut finding = Finding::default();
+    let amount = Amount { wide: 1, long: 2 * settings.amount, short: 100 * settings.amount };
+    finding.wrong = compare::library(&mut library, amount, seed, &mut finding.corners);
+    let mut tally = Tally::default();
+    if finding.wrong.is_none() {
+        (tally, finding.wrong) = try_hostile(&mut library, 40_000 * settings.amount as u64, seed, &mut finding.corners);
+    }
+    (finding, tally)
+}
+
+fn try_hostile(library: &mut Library, calls: u64, seed: u64, corners: &mut Corners) -> (Tally, Option<Counterexample>) {
+    let mut hostile = Hostile::new(library, seed).expect("the driver answers");
+    let ended = hostile.run(calls).err().map(|_| "the library's process ended".to_string());
+    corners.add(&hostile.corners);
+    let wrong = hostile.wrong.or(ended);
+    let wrong = wrong.map(|words| Counterexample { input: Vec::new(), words: format!("hostile call: {words}") });
+    (hostile.tally, wrong)
+}
+
+fn try_program(settings: &Settings, seed: u64) -> Finding {
+    let mut finding = Finding::default();
+    let amount = Amount { wide: 1, long: settings.amount, short: 14 * settings.amount };
+    finding.wrong = compare::program(&settings.trace, amount, seed, &mut finding.corners);
+    finding
+}
+
+fn report(corners: &Corners, tally: &Tally, wrong: &[Counterexample], seconds: u64) -> bool {
+    corners.print();
+    println!("hostile calls by number: {:?}", tally.numbers);
+    println!("damaged states: {} spelled a state, {} none", tally.spelled, tally.unspelled);
+    for counterexample in wrong {
+        println!("DIFFERENCE {}", counterexample.words);
+    }
+    let (samples, unreached) = (corners.samples, corners.unreached());
+    println!(
+        "outside: {samples} samples, {} hostile calls, {} differences, {unreached} corners not reached, {seconds} s",
+        tally.calls,
+        wrong.len()
+    );
+    wrong.is_empty() && unreached == 0
+}
+
+fn main() -> ExitCode {
+    let Some(settings) = settings() else {
+        eprintln!("usage: reference SEED AMOUNT NATIVE TRACE DRIVER");
+        return ExitCode::FAILURE;
+    };
+    let start = Instant::now();
+    let mut random = Random::new(settings.seed);
+    let (library_seed, program_seed) = (random.draw(), random.draw());
+    let ((by_library, tally), by_program) = thread::scope(|scope| {
+        let library = scope.spawn(|| try_library(&settings, library_seed));
+        let program = try_program(&settings, program_seed);
+        (library.join().expect("the comparison with the library ends"), program)
+    });
+    let mut corners = by_library.corners;
+    corners.add(&by_program.corners);
+    let wrong: Vec<Counterexample> = by_library.wrong.into_iter().chain(by_program.wrong).collect();
+    if let Some(counterexample) = wrong.iter().find(|counterexample| !counterexample.input.is_empty()) {
+        let file = Path::new(&settings.driver.program).with_file_name("counterexample.trace");
+        fs::write(file, &counterexample.input).expect("the counterexample can be left");
+    }
+    match report(&corners, &tally, &wrong, start.elapsed().as_secs()) {
+        true => ExitCode::SUCCESS,
+        false => ExitCode::FAILURE,
+    }
+}

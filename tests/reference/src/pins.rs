@@ -1,0 +1,77 @@
+//! "Trace sample".
+
+const SPARE: u32 = 1 << 18;
+pub const WORD: u32 = SPARE - 1;
+
+/// Levels of the pins in one sample, true for HIGH.
+#[derive(Clone, Copy, PartialEq, Eq, Debug)]
+pub struct Pins {
+    pub mrs: bool,
+    pub prs: bool,
+    pub wclk: bool,
+    pub rclk: bool,
+    pub wen: bool,
+    pub ren: bool,
+    pub ld: bool,
+    pub sen: bool,
+    pub rt: bool,
+    pub fwft_si: bool,
+    pub oe: bool,
+    pub write_skew_met: bool,
+    pub read_skew_met: bool,
+    pub spare: bool,
+    pub data: u32,
+}
+
+impl Pins {
+    pub fn of(record: u32) -> Pins {
+        let high = |bit: u32| record >> bit & 1 == 1;
+        Pins {
+            mrs: high(31),
+            prs: high(30),
+            wclk: high(29),
+            rclk: high(28),
+            wen: high(27),
+            ren: high(26),
+            ld: high(25),
+            sen: high(24),
+            rt: high(23),
+            fwft_si: high(22),
+            oe: high(21),
+            write_skew_met: high(20),
+            read_skew_met: high(19),
+            spare: high(18),
+            data: record & WORD,
+        }
+    }
+
+    pub fn record(self) -> u32 {
+        let levels = [
+            self.mrs,
+            self.prs,
+            self.wclk,
+            self.rclk,
+            self.wen,
+            self.ren,
+            self.ld,
+            self.sen,
+            self.rt,
+            self.fwft_si,
+            self.oe,
+            self.write_skew_met,
+            self.read_skew_met,
+            self.spare,
+        ];
+        let high = levels.iter().fold(0, |bits, &level| bits << 1 | u32::from(level));
+        high << 18 | self.data
+    }
+
+    pub fn in_reset(self) -> bool {
+        !self.mrs || !self.prs
+    }
+
+    /// How many of the pins that act under LD are LOW.
+    pub fn enables_low(self) -> usize {
+        [self.wen, self.ren, self.sen].iter().filter(|&&level| !level).count()
+    }
+}
