@@ -7,5 +7,7 @@ pub mod Widths
 pub mod Counted
 pub mod Laws
 pub mod ResetLaws
+pub mod ReachLaws
 pub mod SinceReset
+pub mod RefusalLaws
 pub mod Unique

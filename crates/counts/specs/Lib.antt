@@ -3,3 +3,4 @@ pub mod Part
 pub mod PartLaws
 pub mod Round
 pub mod Laws
+pub mod Sized

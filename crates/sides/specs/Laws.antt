@@ -20,7 +20,7 @@ none-ready : (mode : Mode) (delivered read : Bool) → readyBy (modeAfter mode t
 none-ready Standard delivered read = refl
 none-ready (Fwft untaken) delivered read = refl
 
-none-by : (mode : Mode) → deliversBy mode false false ≡ false
+pub none-by : (mode : Mode) → deliversBy mode false false ≡ false
 none-by Standard = refl
 none-by (Fwft untaken) = refl
 

@@ -3,3 +3,9 @@ pub mod Read
 pub mod Write
 pub mod Laws
 pub mod SinceReset
+pub mod Tracks
+pub mod RoundLaws
+pub mod DeliveryLaws
+pub mod AcceptLaws
+pub mod DecisionLaws
+pub mod CountLaws

@@ -9,6 +9,7 @@ use Rattle.pins.specs.declared.record.Pins.{Pins}
 use Rattle.sides.specs.declared.read.ReadSide.{ReadSide}
 use Rattle.sides.specs.declared.write.WriteSide.{WriteSide}
 use Rattle.sides.specs.Clocks.{readRises, writeRises}
+use Rattle.views.specs.declared.retransmit.Setup.{Setup}
 use Rattle.views.specs.Flags.{fullAt, pafLow}
 use Rattle.sides.specs.Read.{retransmits}
 use Rattle.views.specs.Retransmit.{justBegun, viewAfter}
@@ -31,8 +32,11 @@ acceptedMore limit w = w .wrapped || ltb limit (w .count .0)
 
 -- the read count taken at a rise is from after the last retransmit before this sample, unless the rise looked past
 -- is the very one that retransmitted
+abbrev pub fromAfter : Bool → Setup → Bool
+fromAfter past setup = not (past && justBegun setup)
+
 unfoldable pub takesAfter : Pins → ReadSide → WriteSide → Bool
-takesAfter p r w = not (looksPast (p .skew .write) (w .latest) && justBegun (r .setup))
+takesAfter p r w = fromAfter (looksPast (p .skew .write) (w .latest)) (r .setup)
 
 -- after a rise the second stage holds what the first held
 unfoldable pub secondAfterWrite : Pins → WriteSide → ReadCount

@@ -2,3 +2,5 @@ pub mod Flags
 pub mod Stages
 pub mod Retransmit
 pub mod Laws
+pub mod TrueCounts
+pub mod OrderLaws

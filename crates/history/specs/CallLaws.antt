@@ -1,0 +1,117 @@
+-- Calls lead where their records lead one by one.
+use Prim.Native.Nat.{ℕ, _*_}
+use mathlib.Core.Bool.{Bool, true, false, cond, and-eq-true-iff, true≢false}
+use mathlib.Core.List.{List, [], _∷_}
+use mathlib.Core.Path.{_≡_, refl, sym, subst, _∙_}
+use lib.Dec.{eqb}
+use lib.ListN.{length}
+use borrow.Author.Tests.{eq-eqb, eqb-true}
+use native.Mathlib.Omega.{arith}
+use Rattle.chip.specs.declared.advance.Store.{Store}
+use Rattle.chip.specs.declared.advance.Store.the-variants.{Keep, Put}
+use Rattle.chip.specs.Advance.{advanced}
+use Rattle.chip.specs.Counted.{power-up-counted}
+use Rattle.chip.specs.Reset.{poweredUp}
+use Rattle.chip.specs.ResetLaws.{power-up-passes}
+use Rattle.chip.specs.Widths.{tested-widths}
+use Rattle.counts.specs.declared.part.Part.{Part}
+use Rattle.counts.specs.Part.{depthOf, numberOf}
+use Rattle.fifo_c.specs.declared.state.Spelt.the-variants.{As}
+use Rattle.fifo_c.specs.declared.verdict.Verdict.{Verdict}
+use Rattle.fifo_c.specs.declared.verdict.Verdict.the-variants.{Take, Refuse}
+use Rattle.fifo_c.specs.AsSample.{AsSample, call-is-sample}
+use Rattle.fifo_c.specs.Bytes.{wordsIn}
+use Rattle.fifo_c.specs.BytesLaws.{put-length}
+use Rattle.fifo_c.specs.Call.{answerBytes, byVerdict, called, fetchedFrom, judged, memoryBytes, powered, storedIn, taken, wordSize}
+use Rattle.fifo_c.specs.CallLaws.{cleared, roomy-lengths}
+use Rattle.fifo_c.specs.Spelling.{spelt, stateBytes}
+use Rattle.fifo_c.specs.SpellingLaws.{Bytes, read-back, spelling-bytes, spelling-length}
+use Rattle.pins.specs.Record.{pinsOf}
+use Rattle.pins.specs.Trace.{wholeRecords, wordAt}
+use Rattle.pins.specs.TraceLaws.{records-length}
+use Rattle.history.specs.Calls.{Asked, Buffers, callAll, callOf, callOn, isSample, poweredOn, samplesOf}
+use Rattle.history.specs.Trace.{Moment, led, next, outcome, powerUp}
+
+stored-length : (store : Store) (memory : List ℕ) → length (storedIn store memory) ≡ length memory
+stored-length Keep memory = refl
+stored-length (Put place word) memory = put-length memory (place * wordSize) word
+
+length-by : (v : Verdict) (state memory answer : List ℕ) → length (byVerdict v state memory answer .memory) ≡ length memory
+unfolding taken
+length-by (Take part x s) state memory answer = stored-length (advanced part (pinsOf x) (fetchedFrom part s memory) s .store) memory
+length-by (Refuse number) state memory answer = refl
+
+-- the buffers spell the moment
+pub record Spells (part : Part) (b : Buffers) (m : Moment) : Type 0 where
+  pub spells : spelt (b .state) ≡ As (m .state)
+  pub spelled : length (b .state) ≡ stateBytes
+  pub bytes : Bytes (b .state)
+  pub whole : length (b .memory) ≡ memoryBytes part
+  pub words : wordsIn (b .memory) ≡ m .memory
+
+module _ (part : Part) where
+  module _ (b : Buffers) (a : Asked) where
+    moved-by : (v : Verdict) → judged (numberOf part) (a .bytes) (b .state) (length (b .memory)) (length (a .room)) ≡ v → isSample a ≡ false
+        → (byVerdict v (b .state) (b .memory) (a .room) .state ≡ b .state) × (byVerdict v (b .state) (b .memory) (a .room) .memory ≡ b .memory)
+    moved-by (Take known x s) e f =
+        let c = cleared (numberOf part) (a .bytes) (b .state) (length (b .memory)) (length (a .room)) known x s e in
+        let l = roomy-lengths known (length (b .state)) (length (b .memory)) (length (a .room)) (c .room) in
+        absurd (true≢false (sym (simp (eq-eqb (length (a .bytes)) wordSize (c .whole), eq-eqb (length (a .room)) answerBytes (l .answer))) ∙ f))
+    moved-by (Refuse number) e f = (refl, refl)
+
+    -- a call that is no sample moves nothing
+    call-still : isSample a ≡ false → callOn part b a ≡ b
+    unfolding callOn callOf called
+    call-still f =
+        let same = moved-by (judged (numberOf part) (a .bytes) (b .state) (length (b .memory)) (length (a .room))) refl f in
+        rw (same .0, same .1)
+
+    module _ (m : Moment) (g : Spells part b m) (is : isSample a ≡ true) where
+      pub as-outcome : AsSample (callOf part b a) (outcome part m (wordAt (a .bytes) 0)) (a .room)
+      unfolding callOf outcome
+      as-outcome =
+          let both = and-eq-true-iff (eqb (length (a .bytes)) wordSize) (eqb (length (a .room)) answerBytes) .0 is in
+          rw (← g .words)
+          (call-is-sample (numberOf part) (a .bytes) (b .state) (b .memory) (a .room) (m .state) (g .spells) (g .spelled) (g .bytes)
+          (eqb-true _ _ (both .0)) (omega (arith, g .whole)) (eqb-true _ _ (both .1)))
+
+      spells-next : Spells part (callOn part b a) (next part m (wordAt (a .bytes) 0))
+      unfolding callOn callOf called next
+      spells-next = record {
+        spells = as-outcome .state;
+        spelled = rw (as-outcome .spelled) (spelling-length (outcome part m (wordAt (a .bytes) 0) .sampled .state));
+        bytes = subst Bytes (sym (as-outcome .spelled)) (spelling-bytes (outcome part m (wordAt (a .bytes) 0) .sampled .state));
+        whole = length-by (judged (numberOf part) (a .bytes) (b .state) (length (b .memory)) (length (a .room))) (b .state) (b .memory) (a .room)
+            ∙ g .whole;
+        words = as-outcome .words;
+      }
+
+  calls-by : (is : Bool) (b : Buffers) (a : Asked) (calls : List Asked) (m : Moment) → isSample a ≡ is
+      → (isSample a ≡ true → Spells part (callAll part (callOn part b a) calls) (led part (next part m (wordAt (a .bytes) 0)) (samplesOf calls)))
+      → Spells part (callAll part b calls) (led part m (samplesOf calls))
+      → Spells part (callAll part (callOn part b a) calls) (led part m (cond is (wordAt (a .bytes) 0 ∷ samplesOf calls) (samplesOf calls)))
+  unfolding led
+  calls-by true b a calls m e on off = on e
+  calls-by false b a calls m e on off =
+      subst (λ (c : Buffers). Spells part (callAll part c calls) (led part m (samplesOf calls))) (sym (call-still b a e)) off
+
+  pub calls-lead : (calls : List Asked) (b : Buffers) (m : Moment) → Spells part b m → Spells part (callAll part b calls) (led part m (samplesOf calls))
+  unfolding callAll samplesOf led
+  calls-lead [] b m g = g
+  calls-lead (a ∷ calls) b m g =
+      calls-by (isSample a) b a calls m refl
+      (λ is. calls-lead calls (callOn part b a) (next part m (wordAt (a .bytes) 0)) (spells-next b a m g is)) (calls-lead calls b m g)
+
+  pub powered-spells : (state memory : List ℕ) → length state ≡ stateBytes → length memory ≡ memoryBytes part
+      → Spells part (poweredOn state memory) (powerUp (wordsIn memory))
+  unfolding poweredOn powered powerUp
+  powered-spells state memory room whole = rw (eq-eqb (length state) stateBytes room) (record {
+    spells = read-back part poweredUp (tested-widths part poweredUp (power-up-passes part)) power-up-counted;
+    spelled = spelling-length poweredUp;
+    bytes = spelling-bytes poweredUp;
+    whole = whole;
+    words = refl;
+  })
+
+  pub words-deep : (memory : List ℕ) → length memory ≡ memoryBytes part → length (wordsIn memory) ≡ depthOf part
+  words-deep memory whole = records-length memory 0 (wholeRecords memory) ∙ omega arith

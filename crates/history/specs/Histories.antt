@@ -1,0 +1,168 @@
+-- Demand 3: no word lost, doubled or out of order, and a flag that comes in time.
+--
+-- All of it is said of the model's own definition of one sample, from power-up on: for either part, any words in its memory at
+-- power-up, and any samples, of which refused ones are skipped. The words accepted and delivered, the rises of RCLK and the
+-- flag are those that an onlooker tells from pins, flags and output register: Onlooker.antt. Trace.antt says how samples and
+-- runs lead from moment to moment, Calls.antt how calls from C do.
+use Prim.Native.Nat.{ℕ, _≤_}
+use mathlib.Core.Bool.{Bool, true, false, cond, true≢false}
+use mathlib.Core.List.{List, _∷_, _++_}
+use mathlib.Core.Logic.{_≢_}
+use mathlib.Core.Path.{_≡_, refl, sym, subst, _∙_}
+use lib.ListN.{drop, length, length-replicate, take}
+use native.Mathlib.Omega.{arith}
+use Rattle.chip.specs.declared.state.State.{State}
+use Rattle.chip.specs.ReachLaws.{reached-passes}
+use Rattle.chip.specs.State.{passes, wordsHeld}
+use Rattle.counts.specs.declared.part.Part.{Part}
+use Rattle.counts.specs.declared.part.Part.the-variants.{Idt72V255LA}
+use Rattle.counts.specs.Part.{depthOf}
+use Rattle.fifo.specs.declared.run.Ran.{Ran}
+use Rattle.fifo.specs.Run.{Ended, ranOf}
+use Rattle.fifo.specs.Sample.{numberOf}
+use Rattle.fifo_c.specs.declared.state.Spelt.the-variants.{As}
+use Rattle.fifo_c.specs.Bytes.{wordsIn}
+use Rattle.fifo_c.specs.Call.{memoryBytes}
+use Rattle.fifo_c.specs.Spelling.{spelt, stateBytes}
+use Rattle.pins.specs.Trace.{wordAt}
+use Rattle.views.specs.TrueCounts.{noCounts}
+use Rattle.history.specs.CallLaws.{Spells, as-outcome, calls-lead, powered-spells, words-deep}
+use Rattle.history.specs.Calls.{Asked, Buffers, callAll, callOf, isSample, poweredOn, samplesOf}
+use Rattle.history.specs.KeptLaws.{depth-at-most, first-delivered, remainder-in-memory}
+use Rattle.history.specs.LedLaws.{outcome-not-three, told-led, told-power-up}
+use Rattle.history.specs.Onlooker.{ready}
+use Rattle.history.specs.RunLaws.{led-parts, run-led}
+use Rattle.history.specs.Tight.{fwftReset, late-fwft, late-standard, risenThrice, risenTwice, standardReset, watched, wordWritten, zeros}
+use Rattle.history.specs.TimeLaws.{due-shown}
+use Rattle.history.specs.Trace.{Moment, acceptsWord, at, led, next, outcome, powerUp, readRises, runFrom, shownBy, undisturbed, workedOn}
+use Rattle.history.specs.WordLaws.{wordsFrom}
+
+-- What is true at a moment.
+pub record Kept (part : Part) (m : Moment) : Type 0 where
+  -- the words delivered are the first of the words accepted
+  pub sameWords : m .notes .delivered ≡ take (length (m .notes .delivered)) (m .notes .accepted)
+  -- the remainder of the words accepted is, in order, what memory holds from the read place on, as many words as the write
+  -- count is ahead of the read count
+  pub remainder : drop (length (m .notes .delivered)) (m .notes .accepted)
+      ≡ wordsFrom (depthOf part) (m .memory) (m .state .read .count .0) (wordsHeld (m .state))
+  pub neverOver : wordsHeld (m .state) ≤ depthOf part
+  -- the state passes the test of 3, which a run makes only at its start, and no sample that comes next is refused 3
+  pub passesTest : passes part (m .state) ≡ true
+  pub neverThree : (x : ℕ) → numberOf (outcome part m x .sampled .outcome) ≢ 3
+
+-- A word accepted in a sample and waiting: since then neither reset nor retransmit, RCLK has risen so often, in Standard or in FWFT,
+-- and the word is not delivered. Its number is that of the words accepted before it.
+pub record Waiting (standard fwft : ℕ) (part : Part) (before : Moment) (x : ℕ) (later : List ℕ) : Type 0 where
+  pub accepted : acceptsWord part before x ≡ true
+  pub calm : undisturbed part (next part before x) later ≡ true
+  pub risen : cond (led part (next part before x) later .notes .fwft) fwft standard ≤ readRises part (next part before x) later
+  pub undelivered : length (led part (next part before x) later .notes .delivered) ≤ length (before .notes .accepted)
+
+-- The flag shows a word ready, by a mode and a state.
+abbrev pub Ready : Part → Bool → State → Type 0
+Ready part fwft s = ready fwft (shownBy part s) ≡ true
+
+-- After each sample for as long as a word waits, the flag shows one ready.
+abbrev pub InTime : ℕ → ℕ → Type 0
+InTime standard fwft =
+    (part : Part) (memory : List ℕ) → length memory ≡ depthOf part → (earlier : List ℕ) (x : ℕ) (later : List ℕ)
+    → Waiting standard fwft part (led part (powerUp memory) earlier) x later
+    → let after = led part (next part (led part (powerUp memory) earlier) x) later in Ready part (after .notes .fwft) (after .state)
+
+-- Single samples.
+pub kept : (part : Part) (memory : List ℕ) → length memory ≡ depthOf part → (samples : List ℕ) → Kept part (led part (powerUp memory) samples)
+kept part memory whole samples =
+    let told = told-led part samples (powerUp memory) noCounts (told-power-up part memory whole) in
+    record {
+      sameWords = first-delivered part _ _ told;
+      remainder = remainder-in-memory part _ _ told;
+      neverOver = depth-at-most part _ _ told;
+      passesTest = reached-passes part _ _ (told .reached);
+      neverThree = outcome-not-three part _ _ told;
+    }
+
+-- The third rise of RCLK in Standard, the fourth in FWFT.
+pub in-time : InTime 3 4
+in-time part memory whole earlier x later w =
+    due-shown part (led part (powerUp memory) earlier) _ x later (told-led part earlier (powerUp memory) noCounts (told-power-up part memory whole))
+    (w .accepted) (w .calm) (w .risen) (w .undelivered)
+
+-- And no rise sooner: each time a trace of part 255 shows it.
+too-few : (standard fwft : ℕ) (earlier later : List ℕ) → watched earlier later .accepted ≡ true → watched earlier later .calm ≡ true
+    → cond (watched earlier later .fwft) fwft standard ≤ watched earlier later .rises → watched earlier later .delivered ≤ watched earlier later .earlier
+    → watched earlier later .shown ≡ false → InTime standard fwft → ⊥
+unfolding watched zeros
+too-few standard fwft earlier later accepted calm risen undelivered shown soon =
+    true≢false (sym (soon Idt72V255LA zeros (length-replicate {A = ℕ} 8192 0) earlier wordWritten later
+    (record { accepted = accepted; calm = calm; risen = risen; undelivered = undelivered })) ∙ shown)
+
+pub not-at-second : InTime 2 4 → ⊥
+not-at-second =
+    let e = late-standard in
+    too-few 2 4 standardReset risenTwice (rw e refl) (rw e refl) (rw e (omega arith)) (rw e (omega arith)) (rw e refl)
+
+pub not-at-third : InTime 3 3 → ⊥
+not-at-third =
+    let e = late-fwft in
+    too-few 3 3 fwftReset risenThrice (rw e refl) (rw e refl) (rw e (omega arith)) (rw e (omega arith)) (rw e refl)
+
+-- A run over a trace's bytes, strict or lenient, that goes on from any such moment: `r` and `left` are the result and the memory
+-- that `run` and `run_lenient` promise to hand back. The run leads where the records that it worked lead one by one, and so
+-- the same is true of it.
+module _ (part : Part) (memory : List ℕ) (whole : length memory ≡ depthOf part) where
+  in-time-through : (samples earlier : List ℕ) (x : ℕ) (later : List ℕ) → samples ≡ earlier ++ (x ∷ later)
+      → Waiting 3 4 part (led part (powerUp memory) earlier) x later
+      → let m = led part (powerUp memory) samples in Ready part (m .notes .fwft) (m .state)
+  unfolding led
+  in-time-through samples earlier x later e w =
+      rw (e, led-parts part earlier (x ∷ later) (powerUp memory)) (in-time part memory whole earlier x later w)
+
+  module _ (samples : List ℕ) (lenient : Bool) (bytes answers marks : List ℕ) where
+    abbrev run : Ended
+    run = runFrom part (led part (powerUp memory) samples) lenient bytes answers marks
+
+    module _ (r : Ran) (left : List ℕ) (result : r ≡ ranOf run) (words : left ≡ run .progress .memory) where
+      abbrev worked : List ℕ
+      worked = samples ++ workedOn (r .index) bytes
+
+      abbrev end : Moment
+      end = at (r .state) left (led part (powerUp memory) worked .notes)
+
+      pub run-leads : end ≡ led part (powerUp memory) worked
+      run-leads =
+          let told = told-led part samples (powerUp memory) noCounts (told-power-up part memory whole) in
+          rw (led-parts part samples (workedOn (r .index) bytes) (powerUp memory), result, words)
+          (run-led part (led part (powerUp memory) samples) _ told lenient bytes answers marks)
+
+      pub run-kept : Kept part end
+      run-kept = subst (Kept part) (sym run-leads) (kept part memory whole worked)
+
+      pub run-in-time : (earlier : List ℕ) (x : ℕ) (later : List ℕ) → worked ≡ earlier ++ (x ∷ later)
+          → Waiting 3 4 part (led part (powerUp memory) earlier) x later → Ready part (end .notes .fwft) (end .state)
+      run-in-time earlier x later e w =
+          subst (λ (m : Moment). Ready part (m .notes .fwft) (m .state)) (sym run-leads) (in-time-through worked earlier x later e w)
+
+-- Calls from C on buffers that `fifo_power_up` has set up: state and memory spell the moment that the calls' records lead to, where
+-- the same is true; and no call that hands in a whole record and a room for its answer is refused 3.
+module _ (part : Part) (state memory : List ℕ) (room : length state ≡ stateBytes) (whole : length memory ≡ memoryBytes part) (calls : List Asked) where
+  abbrev there : Moment
+  there = led part (powerUp (wordsIn memory)) (samplesOf calls)
+
+  abbrev buffers : Buffers
+  buffers = callAll part (poweredOn state memory) calls
+
+  calls-spell : Spells part buffers there
+  calls-spell = calls-lead part calls (poweredOn state memory) (powerUp (wordsIn memory)) (powered-spells part state memory room whole)
+
+  pub call-leads : (spelt (buffers .state) ≡ As (there .state)) × (wordsIn (buffers .memory) ≡ there .memory)
+  call-leads = (calls-spell .spells, calls-spell .words)
+
+  pub call-kept : Kept part there
+  call-kept = kept part (wordsIn memory) (words-deep part memory whole) (samplesOf calls)
+
+  pub call-in-time : (earlier : List ℕ) (x : ℕ) (later : List ℕ) → samplesOf calls ≡ earlier ++ (x ∷ later)
+      → Waiting 3 4 part (led part (powerUp (wordsIn memory)) earlier) x later → Ready part (there .notes .fwft) (there .state)
+  call-in-time = in-time-through part (wordsIn memory) (words-deep part memory whole) (samplesOf calls)
+
+  pub call-never-three : (a : Asked) → isSample a ≡ true → callOf part buffers a .code ≢ 3
+  call-never-three a is e = call-kept .neverThree (wordAt (a .bytes) 0) (sym (as-outcome part buffers a there calls-spell is .number) ∙ e)

@@ -1,0 +1,123 @@
+-- From power-up on, after any samples, the notes agree with the model.
+use Prim.Native.Nat.{ℕ}
+use mathlib.Core.Bool.{Bool, true, false, cond, _&&_}
+use mathlib.Core.List.{List, [], _∷_}
+use mathlib.Core.Logic.{_≢_}
+use mathlib.Core.Path.{_≡_, refl, sym, subst}
+use lib.Dec.{eqb}
+use lib.ListN.{length}
+use borrow.Author.Tests.{eq-eqb, eqb-true}
+use native.Mathlib.Omega.{arith}
+use Rattle.chip.specs.declared.advance.Advanced.{Advanced}
+use Rattle.chip.specs.declared.state.State.{State}
+use Rattle.chip.specs.Advance.{advanced}
+use Rattle.chip.specs.ReachLaws.{countsAfter, power-up-reached, reach-stays, reached-passes}
+use Rattle.chip.specs.Refuse.{refusalOf, refusesEight, refusesFive, refusesNine, refusesSeven, refusesSix, refusesTen}
+use Rattle.chip.specs.Reset.{cleared, poweredUp}
+use Rattle.counts.specs.declared.part.Part.{Part}
+use Rattle.counts.specs.Part.{depthOf, numberOf}
+use Rattle.counts.specs.PartLaws.{own-number}
+use Rattle.fifo.specs.Sample as sample
+use Rattle.fifo.specs.Sample.{After, fetchedFor, recordRefusal, stepped, taken, took, turnedAway}
+use Rattle.fifo.specs.SampleLaws.{sample-is-step}
+use Rattle.pins.specs.Record.{bit, pinsOf}
+use Rattle.views.specs.TrueCounts.{TrueCounts, noCounts}
+use Rattle.history.specs.Told.{Told}
+use Rattle.history.specs.ToldLaws.{agrees-after}
+use Rattle.history.specs.Trace.{Moment, isTaken, led, movedTo, next, outcome, powerUp}
+
+none-of : (spare : Bool) (refusal : ℕ) → cond spare 4 refusal ≡ 0 → refusal ≡ 0
+none-of true refusal e = absurd (omega arith)
+none-of false refusal e = e
+
+-- of the numbers that a record can be refused with, none is 3
+not-three-by : (spare five outside six seven eight nine ten : Bool)
+    → _≢_ {A = ℕ} (cond spare 4 (cond five 5 (cond outside (cond six 6 (cond seven 7 (cond eight 8 (cond nine 9 (cond ten 10 0))))) 0))) 3
+not-three-by true five outside six seven eight nine ten e = omega arith
+not-three-by false true outside six seven eight nine ten e = omega arith
+not-three-by false false false six seven eight nine ten e = omega arith
+not-three-by false false true true seven eight nine ten e = omega arith
+not-three-by false false true false true eight nine ten e = omega arith
+not-three-by false false true false false true nine ten e = omega arith
+not-three-by false false true false false false true ten e = omega arith
+not-three-by false false true false false false false true e = omega arith
+not-three-by false false true false false false false false e = omega arith
+
+not-three : (part : Part) (x : ℕ) (s : State) → recordRefusal part x s ≢ 3
+unfolding recordRefusal refusalOf
+not-three part x s =
+    let p = pinsOf x in
+    not-three-by (bit 18 x) (refusesFive p s) (p .mrs && p .prs) (refusesSix p s) (refusesSeven p s) (refusesEight p s)
+    (refusesNine (depthOf part) p s) (refusesTen p s)
+
+number-by : (is : Bool) (a : Advanced) (number : ℕ) (s : State) (memory : List ℕ) → number ≢ 3
+    → sample.numberOf (cond is (took a memory) (turnedAway number s memory) .sampled .outcome) ≢ 3
+number-by true a number s memory h e = omega arith
+number-by false a number s memory h e = h e
+
+module _ (part : Part) where
+  -- the true counts after a sample, and after many
+  abbrev pub countsBy : Moment → ℕ → After → TrueCounts → TrueCounts
+  countsBy m x a t = cond (isTaken (a .sampled .outcome)) (countsAfter part (pinsOf x) (m .state) t) t
+
+  unfoldable pub countsNext : Moment → ℕ → TrueCounts → TrueCounts
+  countsNext m x t = countsBy m x (outcome part m x) t
+
+  unfoldable pub countsLed : Moment → List ℕ → TrueCounts → TrueCounts
+  countsLed m [] t = t
+  countsLed m (x ∷ xs) t = countsLed (next part m x) xs (countsNext m x t)
+
+  module _ (m : Moment) (t : TrueCounts) (g : Told part m t) (x : ℕ) where
+    -- refusals 1 to 3 do not come
+    pub sample-steps : outcome part m x ≡ stepped part x (m .state) (m .memory)
+    unfolding outcome
+    sample-steps =
+        sample-is-step (numberOf part) x (m .state) (m .memory) part (own-number part) (eq-eqb (length (m .memory)) (depthOf part) (g .agrees .whole))
+        (reached-passes part (m .state) t (g .reached))
+
+    not-refused : eqb (recordRefusal part x (m .state)) 0 ≡ true → refusalOf part (pinsOf x) (m .state) ≡ 0
+    unfolding recordRefusal
+    not-refused e = none-of (bit 18 x) (refusalOf part (pinsOf x) (m .state)) (eqb-true _ _ e)
+
+    told-by : (is : Bool) → eqb (recordRefusal part x (m .state)) 0 ≡ is
+        → let a = cond is (taken part (pinsOf x) (m .state) (m .memory)) (turnedAway (recordRefusal part x (m .state)) (m .state) (m .memory)) in
+        Told part (movedTo part m x a) (countsBy m x a t)
+    unfolding taken
+    told-by true e = record {
+      reached = reach-stays part (pinsOf x) (fetchedFor part (m .state) (m .memory)) (m .state) t (g .reached) (not-refused e);
+      agrees = agrees-after part m t g (pinsOf x);
+    }
+    told-by false e = g
+
+    pub told-next : Told part (next part m x) (countsNext m x t)
+    unfolding next countsNext stepped
+    told-next =
+        subst (λ (a : After). Told part (movedTo part m x a) (countsBy m x a t)) (sym sample-steps) (told-by (eqb (recordRefusal part x (m .state)) 0) refl)
+
+    pub outcome-not-three : sample.numberOf (outcome part m x .sampled .outcome) ≢ 3
+    unfolding stepped taken
+    outcome-not-three =
+        subst (λ (a : After). sample.numberOf (a .sampled .outcome) ≢ 3) (sym sample-steps)
+        (number-by (eqb (recordRefusal part x (m .state)) 0) (advanced part (pinsOf x) (fetchedFor part (m .state) (m .memory)) (m .state))
+        (recordRefusal part x (m .state)) (m .state) (m .memory) (not-three part x (m .state)))
+
+  pub told-led : (xs : List ℕ) (m : Moment) (t : TrueCounts) → Told part m t → Told part (led part m xs) (countsLed m xs t)
+  unfolding led countsLed
+  told-led [] m t g = g
+  told-led (x ∷ xs) m t g = told-led xs (next part m x) (countsNext m x t) (told-next m t g x)
+
+  pub told-power-up : (memory : List ℕ) → length memory ≡ depthOf part → Told part (powerUp memory) noCounts
+  unfolding powerUp poweredUp cleared
+  told-power-up memory whole = record {
+    reached = power-up-reached part;
+    agrees = record {
+      whole = whole;
+      wclk = refl;
+      rclk = refl;
+      fwft = refl;
+      written = refl;
+      read = refl;
+      holds = λ i l near. absurd (omega arith);
+      same = refl;
+    };
+  }

@@ -1,0 +1,15 @@
+pub mod Onlooker
+pub mod Trace
+pub mod WordLaws
+pub mod Told
+pub mod EventLaws
+pub mod KeptLaws
+pub mod WentOnLaws
+pub mod ToldLaws
+pub mod LedLaws
+pub mod TimeLaws
+pub mod RunLaws
+pub mod Calls
+pub mod CallLaws
+pub mod Tight
+pub mod Histories

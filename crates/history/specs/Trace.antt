@@ -1,0 +1,83 @@
+-- A trace, sample by sample through the model's own definition of one sample, with an onlooker beside it.
+use Prim.Native.Nat.{ℕ, _+_}
+use mathlib.Core.Bool.{Bool, true, false, not, cond, _&&_, _||_}
+use mathlib.Core.List.{List, [], _∷_}
+use lib.ListN.{take}
+use Rattle.chip.specs.declared.state.State.{State}
+use Rattle.chip.specs.Answer.{linesOf}
+use Rattle.chip.specs.Reset.{poweredUp}
+use Rattle.counts.specs.declared.part.Part.{Part}
+use Rattle.counts.specs.Part.{numberOf}
+use Rattle.fifo.specs.declared.sample.Outcome.{Outcome}
+use Rattle.fifo.specs.declared.sample.Outcome.the-variants.{Taken, Refused}
+use Rattle.fifo.specs.Run.{Ended, runOf, started}
+use Rattle.fifo.specs.Sample.{After, sampled}
+use Rattle.pins.specs.Record.{pinsOf}
+use Rattle.pins.specs.Trace.{recordsFrom, wholeRecords}
+use Rattle.history.specs.Onlooker.{Notes, Shown, accepts, blank, noted, outside, rclkRises, retransmits}
+
+-- the model's state and memory, and the onlooker's notes
+pub record Moment : Type 0 where
+  pub state : State
+  pub memory : List ℕ
+  pub notes : Notes
+
+abbrev pub at : State → List ℕ → Notes → Moment
+at s memory notes = record { state = s; memory = memory; notes = notes }
+
+unfoldable pub powerUp : List ℕ → Moment
+powerUp memory = at poweredUp memory blank
+
+-- the flags are those of the answer; OE has no part in them
+unfoldable pub shownBy : Part → State → Shown
+shownBy part s = record { ff = linesOf part false s .ff; ef = linesOf part false s .ef; register = s .read .output }
+
+abbrev pub isTaken : Outcome → Bool
+isTaken (Taken answer) = true
+isTaken (Refused number) = false
+
+-- the records of a trace that a run works before it ends at an index
+abbrev pub workedOn : ℕ → List ℕ → List ℕ
+workedOn index bytes = take index (recordsFrom bytes 0 (wholeRecords bytes))
+
+module _ (part : Part) where
+  -- one sample, as `sample` works it
+  unfoldable pub outcome : Moment → ℕ → After
+  outcome m x = sampled (numberOf part) x (m .state) (m .memory)
+
+  unfoldable pub takes : Moment → ℕ → Bool
+  takes m x = isTaken (outcome m x .sampled .outcome)
+
+  -- where a sample leads; a refused one is none to the onlooker
+  abbrev pub movedTo : Moment → ℕ → After → Moment
+  movedTo m x a = record {
+    state = a .sampled .state;
+    memory = a .memory;
+    notes = cond (isTaken (a .sampled .outcome)) (noted (m .notes) (pinsOf x) (shownBy part (m .state)) (shownBy part (a .sampled .state))) (m .notes);
+  }
+
+  unfoldable pub next : Moment → ℕ → Moment
+  next m x = movedTo m x (outcome m x)
+
+  -- the moment that a list of samples leads to
+  unfoldable pub led : Moment → List ℕ → Moment
+  led m [] = m
+  led m (x ∷ xs) = led (next m x) xs
+
+  -- the sample is taken and a word accepted in it
+  unfoldable pub acceptsWord : Moment → ℕ → Bool
+  acceptsWord m x = takes m x && accepts (m .notes) (pinsOf x) (shownBy part (m .state))
+
+  -- no reset and no retransmit among the samples that are taken
+  unfoldable pub undisturbed : Moment → List ℕ → Bool
+  undisturbed m [] = true
+  undisturbed m (x ∷ xs) = (not (takes m x) || outside (pinsOf x) && not (retransmits (m .notes) (pinsOf x))) && undisturbed (next m x) xs
+
+  -- how often RCLK rises in samples that are taken
+  unfoldable pub readRises : Moment → List ℕ → ℕ
+  readRises m [] = 0
+  readRises m (x ∷ xs) = cond (takes m x && rclkRises (m .notes) (pinsOf x)) 1 0 + readRises (next m x) xs
+
+  -- a strict or a lenient run over a trace's bytes that goes on from a moment
+  abbrev pub runFrom : Moment → Bool → List ℕ → List ℕ → List ℕ → Ended
+  runFrom m lenient bytes answers marks = runOf lenient (numberOf part) bytes (started (m .state) (m .memory) answers marks)
