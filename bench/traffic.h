@@ -1,4 +1,5 @@
-// Seeded legal traffic for timing: bursts in which each clock keeps its pace and the enables their levels.
+// Seeded legal traffic for timing: bursts in which each clock keeps its pace and the enables their levels. It is in Standard
+// mode, with LD and RT HIGH throughout.
 #ifndef TRAFFIC_H
 #define TRAFFIC_H
 

@@ -1,4 +1,4 @@
-// The paper's figures: the model driven sample by sample, a line for each. `stdout` has the same lines, worked out by hand.
+// The paper's figures: the model driven sample by sample, a line for each. `stdout` has the lines that are expected.
 mod bench;
 mod limits;
 mod listing;

@@ -1,4 +1,5 @@
-// The run of `fifo` under a name for programs in C, which time it.
+// The run of `fifo` under a name for programs in C, which time it. They know their traces to be legal, so that an index is
+// enough for them.
 ghost use Rattle.runs.specs.FromPowerUp.{RunsFromPowerUp};
 
 // A strict run from power-up, and the index at which it ended.

@@ -56,7 +56,7 @@ impl<'a> Hostile<'a> {
             }
             self.lengths_of_power_up()?;
             self.part_numbers()?;
-            self.session()?;
+            self.life()?;
             if round % 50 == 0 {
                 self.brinks()?;
             }
@@ -72,7 +72,7 @@ impl<'a> Hostile<'a> {
 
     /// A trace from power-up with wrong calls in between, then what becomes of its last state in other hands and when
     /// bytes are changed.
-    fn session(&mut self) -> Result<()> {
+    fn life(&mut self) -> Result<()> {
         let (part, other) = self.random.pick(&[(PARTS[0], PARTS[1]), (PARTS[1], PARTS[0])]);
         let mode = self.random.pick(&[Mode::Standard, Mode::FallThrough]);
         let plan = Plan { mode, spoiled: 4, far: false, first: Scene::Verge { written: 1 } };

@@ -1,5 +1,5 @@
-//! A second model of the FIFOs, written from the scope paper alone and in another shape than the proved one: the counts
-//! have no width, no stage is carried, and whatever a side sees is looked up in the history of rises since the reset.
+//! A second model of the FIFOs, which shares neither code nor shape with the proved one: the counts have no width, no
+//! stage is carried, and whatever a side sees is looked up in the history of rises since the reset.
 //!
 //! The model: `part`, `pins`, `history`, `offsets`, `refusals`, `model`. What it is tried on: `random`, `scenes`,
 //! `steering`, `generator`, `plans`, `trace`; and what of that has been come through: `corners`, `watch`. The others that

@@ -81,7 +81,9 @@ fn report(corners: &Corners, tally: &Tally, wrong: &[Counterexample], seconds: u
         tally.calls,
         wrong.len()
     );
-    wrong.is_empty() && unreached == 0
+    // Damage that never spells a state, or always does, tries nothing; and each number is to be met.
+    let damage_tried = tally.spelled > 0 && tally.unspelled > 0 && tally.numbers.iter().all(|&calls| calls > 0);
+    wrong.is_empty() && unreached == 0 && damage_tried
 }
 
 fn main() -> ExitCode {

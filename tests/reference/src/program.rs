@@ -9,7 +9,7 @@ use crate::corners::{Corner, Corners};
 use crate::model::{Model, Outcome};
 use crate::part::{Part, PARTS};
 
-/// How to start a program that was built for the parts' own processor.
+/// How to start a program that was built for x86-64.
 #[derive(Clone)]
 pub struct Launch {
     pub native: String,

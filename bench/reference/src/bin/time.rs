@@ -1,20 +1,33 @@
 //! What the reference takes for a record of the trace on standard input, in nanoseconds.
 
+use std::ffi::c_long;
 use std::process::ExitCode;
-use std::time::Instant;
 
 use reference::model::{Model, Outcome};
 use reference::part::Part;
 
 const REPEATS: usize = 3;
 
+/// What `clock` counts in a second, by POSIX.
+const CLOCKS_PER_SECOND: f64 = 1e6;
+
+extern "C" {
+    fn clock() -> c_long;
+}
+
+/// The processor's time so far, as the other contestants are timed.
+fn processor_seconds() -> f64 {
+    // SAFETY: it takes nothing and only reads.
+    unsafe { clock() as f64 / CLOCKS_PER_SECOND }
+}
+
 fn seconds(part: Part, records: &[u32]) -> f64 {
     let mut model = Model::power_up(part);
     let mut memory = vec![0; part.depth as usize];
-    let start = Instant::now();
+    let start = processor_seconds();
     let taken = |&record: &u32| matches!(model.sample(record, &mut memory), Outcome::Taken(_));
     assert!(records.iter().all(taken), "the traffic is legal");
-    start.elapsed().as_secs_f64()
+    processor_seconds() - start
 }
 
 fn main() -> ExitCode {

@@ -16,7 +16,7 @@ use crate::trace::Step;
 
 impl Hostile<'_> {
     /// The deeper part where its states begin to be too much for the other.
-    fn brink_session(&mut self, first: Scene, stride: usize, at_brink: fn(&Model, Part) -> bool) -> Result<()> {
+    fn life_at_brink(&mut self, first: Scene, stride: usize, at_brink: fn(&Model, Part) -> bool) -> Result<()> {
         let [other, part] = PARTS;
         let plan = Plan { mode: Mode::Standard, spoiled: 0, far: true, first };
         let mut generator = Generator::new(plan, Random::new(self.random.draw()));
@@ -36,11 +36,11 @@ impl Hostile<'_> {
 
     pub(super) fn brinks(&mut self) -> Result<()> {
         let depth = PARTS[0].depth;
-        self.brink_session(Scene::Hover { held: depth }, 1_000, |model, other| model.held() + 2 >= other.depth)?;
-        self.brink_session(Scene::Loading { n: 3, m: 5 }, 1, |model, other| {
+        self.life_at_brink(Scene::Hover { held: depth }, 1_000, |model, other| model.held() + 2 >= other.depth)?;
+        self.life_at_brink(Scene::Loading { n: 3, m: 5 }, 1, |model, other| {
             model.offsets.serial.len() as u32 + 1 >= other.serial_bits()
         })?;
-        self.brink_session(Scene::Loading { n: depth, m: depth - 1 }, 1, |model, _| model.offsets.shown.is_some())
+        self.life_at_brink(Scene::Loading { n: depth, m: depth - 1 }, 1, |model, _| model.offsets.shown.is_some())
     }
 
     fn right_calls(
