@@ -1,7 +1,9 @@
 /* One sample at a time of an IDT72V255LA (part 255) or IDT72V265LA (part 265) FIFO.
  *
- * Between two samples the model is two buffers that the caller keeps: the state, fifo_state_bytes() of them, and the
- * memory, fifo_memory_bytes(part) of them. One call works one sample on them.
+ * Between two samples the model is two buffers that the caller keeps: a state of fifo_state_bytes() bytes and a memory of
+ * fifo_memory_bytes(part) bytes. One call works one sample on them. The first sample must be a Master Reset, MRS LOW:
+ * FWFT/SI then selects the timing mode (LOW Standard, HIGH First Word Fall Through), and LD the offsets and how they are
+ * loaded (LOW 127 and in parallel, HIGH 1,023 and serially).
  *
  * No pointer may be null, also where its length is 0, and no two buffers of a call may overlap. Nothing is allocated,
  * no pointer is kept, and there is no state beside the two buffers: any number of chips can run side by side.
@@ -36,19 +38,21 @@ uint32_t fifo_power_up(uint8_t *state, size_t state_len);
  *   part                 255 or 265, compared in all its 32 bits; the same for the whole life of a state
  *   record, record_len   the sample: four bytes, the first of most weight. From bit 31 down: MRS, PRS, WCLK, RCLK, WEN,
  *                        REN, LD, SEN, RT, FWFT/SI, OE, write skew met, read skew met; bit 18 is 0; then D17 to D0.
- *                        Pins are levels, 1 for HIGH. A clock rises where its level at the last sample taken was LOW.
+ *                        Pins are levels, 1 for HIGH. A clock rises where it is HIGH and was LOW at the last sample taken;
+ *                        at power-up both count as HIGH.
  *   state, state_len     the state, as fifo_power_up or the last call left it
  *   memory, memory_len   the memory, exactly fifo_memory_bytes(part) long: a word is four bytes, the first of most weight.
  *                        At most one word is written, with its upper 14 bits 0.
- *   answer, answer_len   room for the answer, exactly 3 bytes. From bit 23 down: FF/IR, EF/OR, HF, PAE, PAF, driven, and
- *                        Q17 to Q0, which are 0 where OE is HIGH.
+ *   answer, answer_len   room for the answer, exactly 3 bytes, the first of most weight. From bit 23 down: FF/IR, EF/OR,
+ *                        HF, PAE, PAF, driven (1 exactly where OE is LOW), and Q17 to Q0, which are 0 where OE is HIGH.
  *
  * Gives 0 where the sample is taken: state, memory and answer then hold what follows. Otherwise the number of the first
  * of these that applies, and no byte of state, memory or answer has changed:
  *
  *    1   part is neither 255 nor 265
  *    2   state_len, memory_len or answer_len is wrong
- *    3   the state's bytes spell no state, or one that no sample leads to by its widths and counts
+ *    3   the state's bytes spell no state; or an offset, the output register or the serial bits are wider than they can be,
+ *        or a count or a stage lies further behind the write count than it can. Never so for bytes that these functions made
  *    4   record_len is not 4, or bit 18 is set
  *    5   MRS HIGH, and no Master Reset so far
  *    6   a clock rises with LD LOW and more than one of WEN, REN and SEN LOW
