@@ -34,8 +34,7 @@ use Rattle.history.specs.Onlooker.{ready}
 use Rattle.history.specs.RunLaws.{led-parts, run-led}
 use Rattle.history.specs.Tight.{fwftReset, late-fwft, late-standard, risenThrice, risenTwice, standardReset, watched, wordWritten, zeros}
 use Rattle.history.specs.TimeLaws.{due-shown}
-use Rattle.history.specs.Trace.{Moment, acceptsWord, at, led, next, outcome, powerUp, readRises, runFrom, shownBy, undisturbed, workedOn}
-use Rattle.history.specs.WordLaws.{wordsFrom}
+use Rattle.history.specs.Trace.{Moment, acceptsWord, at, led, next, outcome, powerUp, rclkRisesIn, runFrom, shownBy, undisturbed, wordsFrom, workedOn}
 
 -- What is true at a moment.
 pub record Kept (part : Part) (m : Moment) : Type 0 where
@@ -55,7 +54,7 @@ pub record Kept (part : Part) (m : Moment) : Type 0 where
 pub record Waiting (standard fwft : ℕ) (part : Part) (before : Moment) (x : ℕ) (later : List ℕ) : Type 0 where
   pub accepted : acceptsWord part before x ≡ true
   pub calm : undisturbed part (next part before x) later ≡ true
-  pub risen : cond (led part (next part before x) later .notes .fwft) fwft standard ≤ readRises part (next part before x) later
+  pub risen : cond (led part (next part before x) later .notes .fwft) fwft standard ≤ rclkRisesIn part (next part before x) later
   pub undelivered : length (led part (next part before x) later .notes .delivered) ≤ length (before .notes .accepted)
 
 -- The flag shows a word ready, by a mode and a state.

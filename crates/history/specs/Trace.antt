@@ -1,13 +1,14 @@
 -- A trace, sample by sample through the model's own definition of one sample, with an onlooker beside it.
-use Prim.Native.Nat.{ℕ, _+_}
+use Prim.Native.Nat.{ℕ, zero, suc, _+_}
 use mathlib.Core.Bool.{Bool, true, false, not, cond, _&&_, _||_}
 use mathlib.Core.List.{List, [], _∷_}
-use lib.ListN.{take}
+use lib.ListN.{getD, take}
 use Rattle.chip.specs.declared.state.State.{State}
 use Rattle.chip.specs.Answer.{linesOf}
 use Rattle.chip.specs.Reset.{poweredUp}
 use Rattle.counts.specs.declared.part.Part.{Part}
 use Rattle.counts.specs.Part.{numberOf}
+use Rattle.counts.specs.Round.{placeOf}
 use Rattle.fifo.specs.declared.sample.Outcome.{Outcome}
 use Rattle.fifo.specs.declared.sample.Outcome.the-variants.{Taken, Refused}
 use Rattle.fifo.specs.Run.{Ended, runOf, started}
@@ -27,6 +28,11 @@ at s memory notes = record { state = s; memory = memory; notes = notes }
 
 unfoldable pub powerUp : List ℕ → Moment
 powerUp memory = at poweredUp memory blank
+
+-- so many words that a memory holds from the place of a count on
+unfoldable pub wordsFrom : ℕ → List ℕ → ℕ → ℕ → List ℕ
+wordsFrom depth memory count zero = []
+wordsFrom depth memory count (suc many) = getD memory (placeOf depth count) 0 ∷ wordsFrom depth memory (count + 1) many
 
 -- the flags are those of the answer; OE has no part in them
 unfoldable pub shownBy : Part → State → Shown
@@ -74,9 +80,9 @@ module _ (part : Part) where
   undisturbed m (x ∷ xs) = (not (takes m x) || outside (pinsOf x) && not (retransmits (m .notes) (pinsOf x))) && undisturbed (next m x) xs
 
   -- how often RCLK rises in samples that are taken
-  unfoldable pub readRises : Moment → List ℕ → ℕ
-  readRises m [] = 0
-  readRises m (x ∷ xs) = cond (takes m x && rclkRises (m .notes) (pinsOf x)) 1 0 + readRises (next m x) xs
+  unfoldable pub rclkRisesIn : Moment → List ℕ → ℕ
+  rclkRisesIn m [] = 0
+  rclkRisesIn m (x ∷ xs) = cond (takes m x && rclkRises (m .notes) (pinsOf x)) 1 0 + rclkRisesIn (next m x) xs
 
   -- a strict or a lenient run over a trace's bytes that goes on from a moment
   abbrev pub runFrom : Moment → Bool → List ℕ → List ℕ → List ℕ → Ended
