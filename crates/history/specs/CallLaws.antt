@@ -10,10 +10,7 @@ use native.Mathlib.Omega.{arith}
 use Rattle.chip.specs.declared.advance.Store.{Store}
 use Rattle.chip.specs.declared.advance.Store.the-variants.{Keep, Put}
 use Rattle.chip.specs.Advance.{advanced}
-use Rattle.chip.specs.Counted.{power-up-counted}
 use Rattle.chip.specs.Reset.{poweredUp}
-use Rattle.chip.specs.ResetLaws.{power-up-passes}
-use Rattle.chip.specs.Widths.{tested-widths}
 use Rattle.counts.specs.declared.part.Part.{Part}
 use Rattle.counts.specs.Part.{depthOf, numberOf}
 use Rattle.fifo_c.specs.declared.state.Spelt.the-variants.{As}
@@ -25,7 +22,7 @@ use Rattle.fifo_c.specs.BytesLaws.{put-length}
 use Rattle.fifo_c.specs.Call.{answerBytes, byVerdict, called, fetchedFrom, judged, memoryBytes, powered, storedIn, taken, wordSize}
 use Rattle.fifo_c.specs.CallLaws.{cleared, roomy-lengths}
 use Rattle.fifo_c.specs.Spelling.{spelt, stateBytes}
-use Rattle.fifo_c.specs.SpellingLaws.{Bytes, read-back, spelling-bytes, spelling-length}
+use Rattle.fifo_c.specs.SpellingLaws.{Bytes, power-up-read, spelling-bytes, spelling-length}
 use Rattle.pins.specs.Record.{pinsOf}
 use Rattle.pins.specs.Trace.{wholeRecords, wordAt}
 use Rattle.pins.specs.TraceLaws.{records-length}
@@ -106,7 +103,7 @@ module _ (part : Part) where
       → Spells part (poweredOn state memory) (powerUp (wordsIn memory))
   unfolding poweredOn powered powerUp
   powered-spells state memory room whole = rw (eq-eqb (length state) stateBytes room) (record {
-    spells = read-back part poweredUp (tested-widths part poweredUp (power-up-passes part)) power-up-counted;
+    spells = power-up-read;
     spelled = spelling-length poweredUp;
     bytes = spelling-bytes poweredUp;
     whole = whole;
