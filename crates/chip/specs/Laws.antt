@@ -14,7 +14,7 @@ use Rattle.offsets.specs.declared.reading.Shows.{Shows}
 use Rattle.offsets.specs.declared.reading.Shows.the-variants.{Register, Offset}
 use Rattle.pins.specs.declared.record.Pins.{Pins}
 use Rattle.pins.specs.Laws.{laid}
-use Rattle.pins.specs.Record.{isWord, word}
+use Rattle.pins.specs.Record.{bit, isWord, word}
 use Rattle.sides.specs.Write.{accepts}
 use Rattle.chip.specs.declared.advance.Store.{Store}
 use Rattle.chip.specs.declared.advance.Store.the-variants.{Keep, Put}
@@ -40,6 +40,12 @@ store-placed part p s = placed-by part (p .mrs && p .prs && accepts (depthOf par
 pub answer-whole : (part : Part) (p : Pins) (s : State) → answerOf part p s < 2 ^ 24
 unfolding answerOf
 answer-whole part p s = laid (linesOf part (p .oe) s) .whole
+
+-- the flags are given whether OE is HIGH or LOW
+pub flags-given : (part : Part) (p : Pins) (oe : Bool) (s : State)
+    → (bit 23 (answerOf part p s) ≡ linesOf part oe s .ff) × (bit 22 (answerOf part p s) ≡ linesOf part oe s .ef)
+unfolding answerOf linesOf
+flags-given part p oe s = let l = laid (linesOf part (p .oe) s) in (l .ff, l .ef)
 
 -- OE HIGH: no word is given
 pub nothing-given : (part : Part) (p : Pins) (s : State) → p .oe ≡ true → word (answerOf part p s) ≡ 0

@@ -27,17 +27,17 @@ use Rattle.chip.specs.Refuse.{refusalOf}
 use Rattle.chip.specs.Reset.{cleared, keptMode, masterReset, partialReset, poweredUp, selectedMode}
 use Rattle.chip.specs.State.{inReach, passes, widths}
 
-abbrev pub isStandard : Mode → Bool
-isStandard Standard = true
-isStandard (Fwft untaken) = false
+abbrev pub isFwft : Mode → Bool
+isFwft Standard = false
+isFwft (Fwft untaken) = true
 
 -- not full, no word ready, the other flags, and a cleared output register
 abbrev pub ShowsReset : Bool → Lines → Type 0
-ShowsReset standard l =
-    (l .ff ≡ standard) × (l .ef ≡ not standard) × (l .hf ≡ true) × (l .pae ≡ false) × (l .paf ≡ true) × (l .q ≡ 0)
+ShowsReset fwft l =
+    (l .ff ≡ not fwft) × (l .ef ≡ fwft) × (l .hf ≡ true) × (l .pae ≡ false) × (l .paf ≡ true) × (l .q ≡ 0)
 
 cleared-flags : (part : Part) (mode : Mode) (oe started wclk rclk : Bool) (o : Offsets) (next : Next)
-    → ShowsReset (isStandard mode) (linesOf part oe (cleared started wclk rclk (keptMode mode) o (ended next)))
+    → ShowsReset (isFwft mode) (linesOf part oe (cleared started wclk rclk (keptMode mode) o (ended next)))
 unfolding linesOf cleared full ready seesWord
 cleared-flags Idt72V255LA Standard oe started wclk rclk o next = (refl, refl, refl, refl, refl, refl)
 cleared-flags Idt72V255LA (Fwft untaken) oe started wclk rclk o next = (refl, refl, refl, refl, refl, refl)
@@ -45,16 +45,16 @@ cleared-flags Idt72V265LA Standard oe started wclk rclk o next = (refl, refl, re
 cleared-flags Idt72V265LA (Fwft untaken) oe started wclk rclk o next = (refl, refl, refl, refl, refl, refl)
 
 selected-flags : (part : Part) (oe : Bool) (p : Pins) (fwft : Bool)
-    → ShowsReset (not fwft) (linesOf part oe (cleared true (p .wclk) (p .rclk) (selectedMode fwft) (defaults (p .ld)) (ended N)))
+    → ShowsReset fwft (linesOf part oe (cleared true (p .wclk) (p .rclk) (selectedMode fwft) (defaults (p .ld)) (ended N)))
 selected-flags part oe p true = cleared-flags part (Fwft false) oe true (p .wclk) (p .rclk) (defaults (p .ld)) N
 selected-flags part oe p false = cleared-flags part Standard oe true (p .wclk) (p .rclk) (defaults (p .ld)) N
 
 -- FWFT LOW selects Standard
-pub master-flags : (part : Part) (oe : Bool) (p : Pins) → ShowsReset (not (p .fwft)) (linesOf part oe (masterReset p))
+pub master-flags : (part : Part) (oe : Bool) (p : Pins) → ShowsReset (p .fwft) (linesOf part oe (masterReset p))
 unfolding masterReset
 master-flags part oe p = selected-flags part oe p (p .fwft)
 
-pub partial-flags : (part : Part) (oe : Bool) (p : Pins) (s : State) → ShowsReset (isStandard (s .read .mode)) (linesOf part oe (partialReset p s))
+pub partial-flags : (part : Part) (oe : Bool) (p : Pins) (s : State) → ShowsReset (isFwft (s .read .mode)) (linesOf part oe (partialReset p s))
 unfolding partialReset
 partial-flags part oe p s = cleared-flags part (s .read .mode) oe (s .started) (p .wclk) (p .rclk) (s .offsets) (s .reading .next)
 

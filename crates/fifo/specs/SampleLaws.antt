@@ -32,7 +32,7 @@ widths-by : (takes : Bool) (part : Part) (a : Advanced) (number : ℕ) (s : Stat
 widths-by true part a number s memory f e = f
 widths-by false part a number s memory f e = e
 
-stored-length : (store : Store) (memory : List ℕ) → length (stored store memory) ≡ length memory
+pub stored-length : (store : Store) (memory : List ℕ) → length (stored store memory) ≡ length memory
 stored-length Keep memory = refl
 stored-length (Put place word) memory = length-set memory place word
 

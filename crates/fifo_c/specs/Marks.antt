@@ -21,6 +21,7 @@ use Rattle.views.specs.declared.stages.ReadRise.{ReadRise}
 use Rattle.views.specs.declared.stages.ReadRise.the-variants as readRise
 use Rattle.views.specs.declared.stages.WriteRise.{WriteRise}
 use Rattle.views.specs.declared.stages.WriteRise.the-variants as writeRise
+use Rattle.views.specs.Stages.{readRose, writeRose}
 
 abbrev pub digitOf : Bool → ℕ
 digitOf level = cond level 1 0
@@ -67,21 +68,13 @@ isM M = true
 abbrev pub nextOf : Bool → Next
 nextOf second = cond second M N
 
--- whether there is a number beside the digit, that number or 0, and both put together again
-abbrev pub readRose : ReadRise → Bool
-readRose readRise.NoneSince = false
-readRose (readRise.Before count) = true
-
+-- the number beside the digit or 0, and both put together again
 abbrev pub readBefore : ReadRise → ℕ
 readBefore readRise.NoneSince = 0
 readBefore (readRise.Before count) = count .0
 
 abbrev pub readRiseOf : Bool → ℕ → ReadRise
 readRiseOf rose count = cond rose (readRise.Before (record { 0 = count })) readRise.NoneSince
-
-abbrev pub writeRose : WriteRise → Bool
-writeRose writeRise.NoneSince = false
-writeRose (writeRise.Before count) = true
 
 abbrev pub writeBefore : WriteRise → ℕ
 writeBefore writeRise.NoneSince = 0

@@ -23,7 +23,8 @@ use Rattle.views.specs.declared.stages.ReadRise.{ReadRise}
 use Rattle.views.specs.declared.stages.ReadRise.the-variants as readRise
 use Rattle.views.specs.declared.stages.WriteRise.{WriteRise}
 use Rattle.views.specs.declared.stages.WriteRise.the-variants as writeRise
-use Rattle.fifo_c.specs.Marks.{digitOf, digitOfFour, isM, isSerial, levelOf, modeDigit, modeOf, nextOf, otherMarks, readBefore, readMarks, readRiseOf, readRose, setupDigit, setupOf, shownOffset, showsOf, showsOffset, viewDigit, viewOf, writeBefore, writeMarks, writeRiseOf, writeRose}
+use Rattle.views.specs.Stages.{readRose, writeRose}
+use Rattle.fifo_c.specs.Marks.{digitOf, digitOfFour, isM, isSerial, levelOf, modeDigit, modeOf, nextOf, otherMarks, readBefore, readMarks, readRiseOf, setupDigit, setupOf, shownOffset, showsOf, showsOffset, viewDigit, viewOf, writeBefore, writeMarks, writeRiseOf}
 use Rattle.fifo_c.specs.Spelling.{highOf, lowOf, offsetsOf, paired, readOf, readingOf, writeOf}
 
 -- a digit by itself

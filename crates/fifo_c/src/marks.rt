@@ -1,7 +1,8 @@
 // The state's levels and enums as digits, and back.
 ghost use Prim.Native.Nat.{_<_, _≤_, _/_};
-ghost use Rattle.fifo_c.specs.Marks.{digitOf, isM, isSerial, levelOf, modeDigit, modeOf, nextOf, otherMarks, readBefore, readMarks, readRiseOf, readRose, setupDigit, setupOf, shownOffset, showsOf, showsOffset, viewDigit, viewOf, writeBefore, writeMarks, writeRiseOf, writeRose};
+ghost use Rattle.fifo_c.specs.Marks.{digitOf, isM, isSerial, levelOf, modeDigit, modeOf, nextOf, otherMarks, readBefore, readMarks, readRiseOf, setupDigit, setupOf, shownOffset, showsOf, showsOffset, viewDigit, viewOf, writeBefore, writeMarks, writeRiseOf};
 ghost use Rattle.offsets.specs.Registers.{methodOf};
+ghost use Rattle.views.specs.Stages.{readRose, writeRose};
 ghost use mathlib.Core.Path.{_≡_};
 use chip::state::State;
 use counts::round::ReadCount;

@@ -2,35 +2,45 @@
 use Prim.Native.Nat.{ℕ, _*_}
 use mathlib.Core.Bool.{Bool, true, false, cond, and-eq-true-iff, true≢false}
 use mathlib.Core.List.{List, [], _∷_}
-use mathlib.Core.Path.{_≡_, refl, sym, subst, _∙_}
+use mathlib.Core.Logic.{_≢_}
+use mathlib.Core.Path.{_≡_, refl, sym, ap, subst, _∙_}
 use lib.Dec.{eqb}
 use lib.ListN.{length}
 use borrow.Author.Tests.{eq-eqb, eqb-true}
 use native.Mathlib.Omega.{arith}
 use Rattle.chip.specs.declared.advance.Store.{Store}
 use Rattle.chip.specs.declared.advance.Store.the-variants.{Keep, Put}
+use Rattle.chip.specs.declared.state.State.{State}
 use Rattle.chip.specs.Advance.{advanced}
-use Rattle.chip.specs.Counted.{power-up-counted}
+use Rattle.chip.specs.Answer.{answerOf}
+use Rattle.chip.specs.Laws.{answer-whole}
 use Rattle.chip.specs.Reset.{poweredUp}
-use Rattle.chip.specs.ResetLaws.{power-up-passes}
-use Rattle.chip.specs.Widths.{tested-widths}
+use Rattle.chip.specs.State.{passes}
 use Rattle.counts.specs.declared.part.Part.{Part}
 use Rattle.counts.specs.Part.{depthOf, numberOf}
+use Rattle.counts.specs.PartLaws.{own-number}
 use Rattle.fifo_c.specs.declared.state.Spelt.the-variants.{As}
 use Rattle.fifo_c.specs.declared.verdict.Verdict.{Verdict}
 use Rattle.fifo_c.specs.declared.verdict.Verdict.the-variants.{Take, Refuse}
 use Rattle.fifo_c.specs.AsSample.{AsSample, call-is-sample}
 use Rattle.fifo_c.specs.Bytes.{wordsIn}
 use Rattle.fifo_c.specs.BytesLaws.{put-length}
-use Rattle.fifo_c.specs.Call.{answerBytes, byVerdict, called, fetchedFrom, judged, memoryBytes, powered, storedIn, taken, wordSize}
+use Rattle.fifo_c.specs.Call.{answerBytes, byVerdict, called, fetchedFrom, judged, memoryBytes, onRecord, powered, roomy, storedIn, taken, wordSize}
 use Rattle.fifo_c.specs.CallLaws.{cleared, roomy-lengths}
 use Rattle.fifo_c.specs.Spelling.{spelt, stateBytes}
-use Rattle.fifo_c.specs.SpellingLaws.{Bytes, read-back, spelling-bytes, spelling-length}
+use Rattle.fifo_c.specs.SpellingLaws.{Bytes, power-up-read, spelling-bytes, spelling-length}
+use Rattle.fifo.specs.declared.sample.Outcome.{Outcome}
+use Rattle.fifo.specs.Run.{answersAfter, putAnswer}
+use Rattle.fifo.specs.Sample.{recordRefusal}
 use Rattle.pins.specs.Record.{pinsOf}
 use Rattle.pins.specs.Trace.{wholeRecords, wordAt}
 use Rattle.pins.specs.TraceLaws.{records-length}
+use Rattle.views.specs.TrueCounts.{TrueCounts}
+use Rattle.history.specs.AnswerLaws.{answer-put, answers-next, taken-answer}
 use Rattle.history.specs.Calls.{Asked, Buffers, callAll, callOf, callOn, isSample, poweredOn, samplesOf}
-use Rattle.history.specs.Trace.{Moment, led, next, outcome, powerUp}
+use Rattle.history.specs.LedLaws.{not-three}
+use Rattle.history.specs.Told.{Told}
+use Rattle.history.specs.Trace.{Answers, Moment, answerIn, led, next, outcome, powerUp}
 
 stored-length : (store : Store) (memory : List ℕ) → length (storedIn store memory) ≡ length memory
 stored-length Keep memory = refl
@@ -66,6 +76,23 @@ module _ (part : Part) where
         let same = moved-by (judged (numberOf part) (a .bytes) (b .state) (length (b .memory)) (length (a .room))) refl f in
         rw (same .0, same .1)
 
+    not-three-by : (room whole free : Bool) (x : ℕ) (s : State) (number : ℕ) → number ≢ 3
+        → byVerdict (cond room (cond whole (cond free (Take part x s) (Refuse number)) (Refuse 4)) (Refuse 2)) (b .state) (b .memory) (a .room) .code ≢ 3
+    unfolding taken
+    not-three-by true true true x s number h e = omega arith
+    not-three-by true true false x s number h e = h e
+    not-three-by true false free x s number h e = omega arith
+    not-three-by false whole free x s number h e = omega arith
+
+    -- whatever record and room it is handed: 2 and 4 are all that their lengths can bring
+    pub call-not-three : (m : Moment) → Spells part b m → passes part (m .state) ≡ true → callOf part b a .code ≢ 3
+    unfolding callOf called judged onRecord
+    call-not-three m g passed =
+        let x = wordAt (a .bytes) 0 in
+        rw (own-number part, g .spells, passed)
+        (not-three-by (roomy part (length (b .state)) (length (b .memory)) (length (a .room))) (eqb (length (a .bytes)) wordSize)
+        (eqb (recordRefusal part x (m .state)) 0) x (m .state) (recordRefusal part x (m .state)) (not-three part x (m .state)))
+
     module _ (m : Moment) (g : Spells part b m) (is : isSample a ≡ true) where
       pub as-outcome : AsSample (callOf part b a) (outcome part m (wordAt (a .bytes) 0)) (a .room)
       unfolding callOf outcome
@@ -74,6 +101,19 @@ module _ (part : Part) where
           rw (← g .words)
           (call-is-sample (numberOf part) (a .bytes) (b .state) (b .memory) (a .room) (m .state) (g .spells) (g .spelled) (g .bytes)
           (eqb-true _ _ (both .0)) (omega (arith, g .whole)) (eqb-true _ _ (both .1)))
+
+      -- the answer found in the room of a call that is taken
+      pub call-answers : (t : TrueCounts) → Told part m t → callOf part b a .code ≡ 0
+          → let x = wordAt (a .bytes) 0 in Answers part (pinsOf x) (next part m x .state) (answerIn (callOf part b a .answer))
+      call-answers t told z =
+          let x = wordAt (a .bytes) 0 in
+          let answer = answerOf part (pinsOf x) (next part m x .state) in
+          let both = and-eq-true-iff (eqb (length (a .bytes)) wordSize) (eqb (length (a .room)) answerBytes) .0 is in
+          let three : length (a .room) ≡ answerBytes = eqb-true _ _ (both .1) in
+          let put : callOf part b a .answer ≡ putAnswer (a .room) 0 answer = as-outcome .room
+          ∙ ap (λ (found : Outcome). answersAfter found 0 (a .room)) (taken-answer part m t told x (sym (as-outcome .number) ∙ z)) in
+          let same = ap answerIn put ∙ answer-put (a .room) answer (omega arith) (answer-whole part (pinsOf x) (next part m x .state)) in
+          subst (Answers part (pinsOf x) (next part m x .state)) (sym same) (answers-next part m t told x)
 
       spells-next : Spells part (callOn part b a) (next part m (wordAt (a .bytes) 0))
       unfolding callOn callOf called next
@@ -106,7 +146,7 @@ module _ (part : Part) where
       → Spells part (poweredOn state memory) (powerUp (wordsIn memory))
   unfolding poweredOn powered powerUp
   powered-spells state memory room whole = rw (eq-eqb (length state) stateBytes room) (record {
-    spells = read-back part poweredUp (tested-widths part poweredUp (power-up-passes part)) power-up-counted;
+    spells = power-up-read;
     spelled = spelling-length poweredUp;
     bytes = spelling-bytes poweredUp;
     whole = whole;

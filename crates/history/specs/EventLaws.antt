@@ -5,6 +5,7 @@ use mathlib.Core.Path.{_≡_, refl}
 use Rattle.chip.specs.declared.state.State.{State}
 use Rattle.chip.specs.Advance.{running}
 use Rattle.chip.specs.Answer.{efLevel, ffLevel, linesOf}
+use Rattle.chip.specs.ResetLaws.{isFwft}
 use Rattle.counts.specs.declared.part.Part.{Part}
 use Rattle.counts.specs.Part.{depthOf}
 use Rattle.pins.specs.declared.record.Pins.{Pins}
@@ -16,7 +17,7 @@ use Rattle.sides.specs.Read.{deliversBy, modeAfter, readAfter, readyBy, seesWor
 use Rattle.sides.specs.Write as write
 use Rattle.views.specs.TrueCounts.{TrueCounts}
 use Rattle.history.specs.Onlooker.{Notes, accepts, delivers, full, outside, rclkRises, reads, ready, retransmits}
-use Rattle.history.specs.Told.{Agrees, isFwft}
+use Rattle.history.specs.Told.{Agrees}
 use Rattle.history.specs.Trace.{Moment, shownBy}
 
 -- each flag, read by the mode, tells what it was set by

@@ -6,9 +6,9 @@
 -- runs lead from moment to moment, Calls.antt how calls from C do.
 use Prim.Native.Nat.{ℕ, _≤_}
 use mathlib.Core.Bool.{Bool, true, false, cond, true≢false}
-use mathlib.Core.List.{List, _∷_, _++_}
+use mathlib.Core.List.{List, [], _∷_, _++_}
 use mathlib.Core.Logic.{_≢_}
-use mathlib.Core.Path.{_≡_, refl, sym, subst, _∙_}
+use mathlib.Core.Path.{_≡_, refl, sym, ap, subst, _∙_}
 use lib.ListN.{drop, length, length-replicate, take}
 use native.Mathlib.Omega.{arith}
 use Rattle.chip.specs.declared.state.State.{State}
@@ -18,24 +18,26 @@ use Rattle.counts.specs.declared.part.Part.{Part}
 use Rattle.counts.specs.declared.part.Part.the-variants.{Idt72V255LA}
 use Rattle.counts.specs.Part.{depthOf}
 use Rattle.fifo.specs.declared.run.Ran.{Ran}
+use Rattle.fifo.specs.declared.sample.Outcome.the-variants.{Taken}
 use Rattle.fifo.specs.Run.{Ended, ranOf}
 use Rattle.fifo.specs.Sample.{numberOf}
 use Rattle.fifo_c.specs.declared.state.Spelt.the-variants.{As}
 use Rattle.fifo_c.specs.Bytes.{wordsIn}
 use Rattle.fifo_c.specs.Call.{memoryBytes}
 use Rattle.fifo_c.specs.Spelling.{spelt, stateBytes}
+use Rattle.pins.specs.Record.{bit, pinsOf}
 use Rattle.pins.specs.Trace.{wordAt}
 use Rattle.views.specs.TrueCounts.{noCounts}
-use Rattle.history.specs.CallLaws.{Spells, as-outcome, calls-lead, powered-spells, words-deep}
+use Rattle.history.specs.AnswerLaws.{answers-taken}
+use Rattle.history.specs.CallLaws.{Spells, call-answers, call-not-three, calls-lead, powered-spells, words-deep}
 use Rattle.history.specs.Calls.{Asked, Buffers, callAll, callOf, isSample, poweredOn, samplesOf}
 use Rattle.history.specs.KeptLaws.{depth-at-most, first-delivered, remainder-in-memory}
 use Rattle.history.specs.LedLaws.{outcome-not-three, told-led, told-power-up}
-use Rattle.history.specs.Onlooker.{ready}
-use Rattle.history.specs.RunLaws.{led-parts, run-led}
+use Rattle.history.specs.Onlooker.{ready, tellsReady}
+use Rattle.history.specs.RunLaws.{led-parts, run-led, run-not-three}
 use Rattle.history.specs.Tight.{fwftReset, late-fwft, late-standard, risenThrice, risenTwice, standardReset, watched, wordWritten, zeros}
 use Rattle.history.specs.TimeLaws.{due-shown}
-use Rattle.history.specs.Trace.{Moment, acceptsWord, at, led, next, outcome, powerUp, readRises, runFrom, shownBy, undisturbed, workedOn}
-use Rattle.history.specs.WordLaws.{wordsFrom}
+use Rattle.history.specs.Trace.{Answers, Moment, acceptsWord, answerIn, at, led, next, outcome, powerUp, rclkRisesIn, runFrom, shownBy, undisturbed, wordsFrom, workedOn}
 
 -- What is true at a moment.
 pub record Kept (part : Part) (m : Moment) : Type 0 where
@@ -55,7 +57,7 @@ pub record Kept (part : Part) (m : Moment) : Type 0 where
 pub record Waiting (standard fwft : ℕ) (part : Part) (before : Moment) (x : ℕ) (later : List ℕ) : Type 0 where
   pub accepted : acceptsWord part before x ≡ true
   pub calm : undisturbed part (next part before x) later ≡ true
-  pub risen : cond (led part (next part before x) later .notes .fwft) fwft standard ≤ readRises part (next part before x) later
+  pub risen : cond (led part (next part before x) later .notes .fwft) fwft standard ≤ rclkRisesIn part (next part before x) later
   pub undelivered : length (led part (next part before x) later .notes .delivered) ≤ length (before .notes .accepted)
 
 -- The flag shows a word ready, by a mode and a state.
@@ -87,6 +89,26 @@ in-time part memory whole earlier x later w =
     due-shown part (led part (powerUp memory) earlier) _ x later (told-led part earlier (powerUp memory) noCounts (told-power-up part memory whole))
     (w .accepted) (w .calm) (w .risen) (w .undelivered)
 
+-- What the onlooker sees after a sample that is taken is what its answer gives,
+pub answered : (part : Part) (memory : List ℕ) → length memory ≡ depthOf part → (samples : List ℕ) (x answer : ℕ)
+    → let m = led part (powerUp memory) samples in
+    outcome part m x .sampled .outcome ≡ Taken answer → Answers part (pinsOf x) (next part m x .state) answer
+answered part memory whole samples x =
+    answers-taken part (led part (powerUp memory) samples) _ (told-led part samples (powerUp memory) noCounts (told-power-up part memory whole)) x
+
+-- and so the bit of EF and OR in the answer of a sample `y`, up to which the word waits, tells in time that one is ready.
+pub answer-in-time : (part : Part) (memory : List ℕ) → length memory ≡ depthOf part → (earlier : List ℕ) (x : ℕ) (later : List ℕ) (y answer : ℕ)
+    → let m = led part (powerUp memory) (earlier ++ (x ∷ later)) in
+    outcome part m y .sampled .outcome ≡ Taken answer → Waiting 3 4 part (led part (powerUp memory) earlier) x (later ++ (y ∷ []))
+    → tellsReady (next part m y .notes .fwft) (bit 22 answer) ≡ true
+unfolding led
+answer-in-time part memory whole earlier x later y answer taken w =
+    let start = led part (powerUp memory) earlier in
+    let there : led part (next part start x) (later ++ (y ∷ [])) ≡ next part (led part (powerUp memory) (earlier ++ (x ∷ later))) y =
+    led-parts part later (y ∷ []) (next part start x) ∙ ap (λ (m : Moment). next part m y) (sym (led-parts part earlier (x ∷ later) (powerUp memory))) in
+    rw (answered part memory whole (earlier ++ (x ∷ later)) y answer taken .ef)
+    (subst (λ (m : Moment). Ready part (m .notes .fwft) (m .state)) there (in-time part memory whole earlier x (later ++ (y ∷ [])) w))
+
 -- And no rise sooner: each time a trace of part 255 shows it.
 too-few : (standard fwft : ℕ) (earlier later : List ℕ) → watched earlier later .accepted ≡ true → watched earlier later .calm ≡ true
     → cond (watched earlier later .fwft) fwft standard ≤ watched earlier later .rises → watched earlier later .delivered ≤ watched earlier later .earlier
@@ -110,12 +132,13 @@ not-at-third =
 -- that `run` and `run_lenient` promise to hand back. The run leads where the records that it worked lead one by one, and so
 -- the same is true of it.
 module _ (part : Part) (memory : List ℕ) (whole : length memory ≡ depthOf part) where
-  in-time-through : (samples earlier : List ℕ) (x : ℕ) (later : List ℕ) → samples ≡ earlier ++ (x ∷ later)
+  -- in time after each of the samples: those that came up to it are `earlier`, `x` and `later`, those after it `rest`
+  in-time-through : (samples earlier : List ℕ) (x : ℕ) (later rest : List ℕ) → samples ≡ (earlier ++ (x ∷ later)) ++ rest
       → Waiting 3 4 part (led part (powerUp memory) earlier) x later
-      → let m = led part (powerUp memory) samples in Ready part (m .notes .fwft) (m .state)
+      → let m = led part (powerUp memory) (earlier ++ (x ∷ later)) in Ready part (m .notes .fwft) (m .state)
   unfolding led
-  in-time-through samples earlier x later e w =
-      rw (e, led-parts part earlier (x ∷ later) (powerUp memory)) (in-time part memory whole earlier x later w)
+  in-time-through samples earlier x later rest e w =
+      rw (led-parts part earlier (x ∷ later) (powerUp memory)) (in-time part memory whole earlier x later w)
 
   module _ (samples : List ℕ) (lenient : Bool) (bytes answers marks : List ℕ) where
     abbrev run : Ended
@@ -137,13 +160,20 @@ module _ (part : Part) (memory : List ℕ) (whole : length memory ≡ depthOf pa
       pub run-kept : Kept part end
       run-kept = subst (Kept part) (sym run-leads) (kept part memory whole worked)
 
-      pub run-in-time : (earlier : List ℕ) (x : ℕ) (later : List ℕ) → worked ≡ earlier ++ (x ∷ later)
-          → Waiting 3 4 part (led part (powerUp memory) earlier) x later → Ready part (end .notes .fwft) (end .state)
-      run-in-time earlier x later e w =
-          subst (λ (m : Moment). Ready part (m .notes .fwft) (m .state)) (sym run-leads) (in-time-through worked earlier x later e w)
+      -- it is not itself refused 3
+      pub run-never-three : r .refusal ≢ 3
+      run-never-three =
+          let told = told-led part samples (powerUp memory) noCounts (told-power-up part memory whole) in
+          rw result (run-not-three part (led part (powerUp memory) samples) _ told lenient bytes answers marks)
+
+      -- not at the end alone, but after each record that was worked
+      pub run-in-time : (earlier : List ℕ) (x : ℕ) (later rest : List ℕ) → worked ≡ (earlier ++ (x ∷ later)) ++ rest
+          → Waiting 3 4 part (led part (powerUp memory) earlier) x later
+          → let m = led part (powerUp memory) (earlier ++ (x ∷ later)) in Ready part (m .notes .fwft) (m .state)
+      run-in-time = in-time-through worked
 
 -- Calls from C on buffers that `fifo_power_up` has set up: state and memory spell the moment that the calls' records lead to, where
--- the same is true; and no call that hands in a whole record and a room for its answer is refused 3.
+-- the same is true; the room of a call that is taken holds the answer of its sample; and no call is refused 3.
 module _ (part : Part) (state memory : List ℕ) (room : length state ≡ stateBytes) (whole : length memory ≡ memoryBytes part) (calls : List Asked) where
   abbrev there : Moment
   there = led part (powerUp (wordsIn memory)) (samplesOf calls)
@@ -162,7 +192,16 @@ module _ (part : Part) (state memory : List ℕ) (room : length state ≡ stateB
 
   pub call-in-time : (earlier : List ℕ) (x : ℕ) (later : List ℕ) → samplesOf calls ≡ earlier ++ (x ∷ later)
       → Waiting 3 4 part (led part (powerUp (wordsIn memory)) earlier) x later → Ready part (there .notes .fwft) (there .state)
-  call-in-time = in-time-through part (wordsIn memory) (words-deep part memory whole) (samplesOf calls)
+  unfolding led
+  call-in-time earlier x later e w =
+      rw (e, led-parts part earlier (x ∷ later) (powerUp (wordsIn memory)))
+      (in-time part (wordsIn memory) (words-deep part memory whole) earlier x later w)
 
-  pub call-never-three : (a : Asked) → isSample a ≡ true → callOf part buffers a .code ≢ 3
-  call-never-three a is e = call-kept .neverThree (wordAt (a .bytes) 0) (sym (as-outcome part buffers a there calls-spell is .number) ∙ e)
+  pub call-answered : (a : Asked) → isSample a ≡ true → callOf part buffers a .code ≡ 0
+      → let x = wordAt (a .bytes) 0 in Answers part (pinsOf x) (next part there x .state) (answerIn (callOf part buffers a .answer))
+  call-answered a is =
+      call-answers part buffers a there calls-spell is _
+      (told-led part (samplesOf calls) (powerUp (wordsIn memory)) noCounts (told-power-up part (wordsIn memory) (words-deep part memory whole)))
+
+  pub call-never-three : (a : Asked) → callOf part buffers a .code ≢ 3
+  call-never-three a = call-not-three part buffers a there calls-spell (call-kept .passesTest)

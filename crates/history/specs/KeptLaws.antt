@@ -11,8 +11,8 @@ use Rattle.counts.specs.Round.{placeOf}
 use Rattle.counts.specs.Sized.{part-sized}
 use Rattle.views.specs.TrueCounts.{TrueCounts}
 use Rattle.history.specs.Told.{Told}
-use Rattle.history.specs.Trace.{Moment}
-use Rattle.history.specs.WordLaws.{remainder-held, wordsFrom}
+use Rattle.history.specs.Trace.{Moment, wordsFrom}
+use Rattle.history.specs.WordLaws.{remainder-held}
 
 module _ (part : Part) (m : Moment) (t : TrueCounts) (g : Told part m t) where
   pub first-delivered : m .notes .delivered ≡ take (length (m .notes .delivered)) (m .notes .accepted)

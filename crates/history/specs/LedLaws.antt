@@ -43,7 +43,7 @@ not-three-by false false true false false false true ten e = omega arith
 not-three-by false false true false false false false true e = omega arith
 not-three-by false false true false false false false false e = omega arith
 
-not-three : (part : Part) (x : ℕ) (s : State) → recordRefusal part x s ≢ 3
+pub not-three : (part : Part) (x : ℕ) (s : State) → recordRefusal part x s ≢ 3
 unfolding recordRefusal refusalOf
 not-three part x s =
     let p = pinsOf x in
@@ -54,6 +54,11 @@ number-by : (is : Bool) (a : Advanced) (number : ℕ) (s : State) (memory : List
     → sample.numberOf (cond is (took a memory) (turnedAway number s memory) .sampled .outcome) ≢ 3
 number-by true a number s memory h e = omega arith
 number-by false a number s memory h e = h e
+
+pub step-not-three : (part : Part) (x : ℕ) (s : State) (memory : List ℕ) → sample.numberOf (stepped part x s memory .sampled .outcome) ≢ 3
+unfolding stepped taken
+step-not-three part x s memory =
+    number-by (eqb (recordRefusal part x s) 0) (advanced part (pinsOf x) (fetchedFor part s memory) s) (recordRefusal part x s) s memory (not-three part x s)
 
 module _ (part : Part) where
   -- the true counts after a sample, and after many
@@ -95,11 +100,8 @@ module _ (part : Part) where
         subst (λ (a : After). Told part (movedTo part m x a) (countsBy m x a t)) (sym sample-steps) (told-by (eqb (recordRefusal part x (m .state)) 0) refl)
 
     pub outcome-not-three : sample.numberOf (outcome part m x .sampled .outcome) ≢ 3
-    unfolding stepped taken
     outcome-not-three =
-        subst (λ (a : After). sample.numberOf (a .sampled .outcome) ≢ 3) (sym sample-steps)
-        (number-by (eqb (recordRefusal part x (m .state)) 0) (advanced part (pinsOf x) (fetchedFor part (m .state) (m .memory)) (m .state))
-        (recordRefusal part x (m .state)) (m .state) (m .memory) (not-three part x (m .state)))
+        subst (λ (a : After). sample.numberOf (a .sampled .outcome) ≢ 3) (sym sample-steps) (step-not-three part x (m .state) (m .memory))
 
   pub told-led : (xs : List ℕ) (m : Moment) (t : TrueCounts) → Told part m t → Told part (led part m xs) (countsLed m xs t)
   unfolding led countsLed

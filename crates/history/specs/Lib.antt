@@ -7,6 +7,7 @@ pub mod KeptLaws
 pub mod WentOnLaws
 pub mod ToldLaws
 pub mod LedLaws
+pub mod AnswerLaws
 pub mod TimeLaws
 pub mod RunLaws
 pub mod Calls

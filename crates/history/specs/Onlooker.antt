@@ -40,8 +40,11 @@ abbrev pub full : Bool → Shown → Bool
 full fwft shown = cond fwft (shown .ff) (not (shown .ff))
 
 -- a word is ready: EF HIGH, or OR LOW
+abbrev pub tellsReady : Bool → Bool → Bool
+tellsReady fwft ef = cond fwft (not ef) ef
+
 abbrev pub ready : Bool → Shown → Bool
-ready fwft shown = cond fwft (not (shown .ef)) (shown .ef)
+ready fwft shown = tellsReady fwft (shown .ef)
 
 -- the word on D is accepted
 unfoldable pub accepts : Notes → Pins → Shown → Bool

@@ -2,6 +2,7 @@
 use Prim.Native.Nat.{ℕ, suc, _+_}
 use mathlib.Core.Bool.{Bool, true, false, cond, _&&_}
 use mathlib.Core.List.{List, [], _∷_, _++_}
+use mathlib.Core.Logic.{_≢_}
 use mathlib.Core.Path.{_≡_, refl, sym, ap, subst, _∙_}
 use lib.ListN.{length, take}
 use native.Mathlib.Nat.{zero-add}
@@ -9,12 +10,15 @@ use native.Mathlib.Omega.{arith}
 use Rattle.chip.specs.ReachLaws.{reached-passes}
 use Rattle.counts.specs.declared.part.Part.{Part}
 use Rattle.counts.specs.PartLaws.{own-number}
-use Rattle.fifo.specs.Run.{Ended, Progress, ended, folded, noted, roomy, runOf, started, stops, worked}
+use Rattle.fifo.specs.Run.{Ended, Progress, atEnd, ended, folded, noted, roomy, runOf, started, stops, worked}
 use Rattle.fifo.specs.Sample as sample
 use Rattle.fifo.specs.Sample.{isDepth, stepped}
-use Rattle.pins.specs.Trace.{recordsFrom, wholeRecords}
+use Rattle.pins.specs.declared.trace.Record.{Record}
+use Rattle.pins.specs.declared.trace.Record.the-variants.{Whole, Leftover, End}
+use Rattle.pins.specs.Trace as trace
+use Rattle.pins.specs.Trace.{recordAt, recordsFrom, wholeRecords}
 use Rattle.views.specs.TrueCounts.{TrueCounts}
-use Rattle.history.specs.LedLaws.{countsNext, sample-steps, told-next}
+use Rattle.history.specs.LedLaws.{countsNext, sample-steps, step-not-three, told-next}
 use Rattle.history.specs.Onlooker.{Notes}
 use Rattle.history.specs.Told.{Told}
 use Rattle.history.specs.Trace.{Moment, at, led, movedTo, next, runFrom, workedOn}
@@ -25,6 +29,15 @@ record Follows (part : Part) (m : Moment) (xs : List ℕ) (index : ℕ) (e : End
   further : e .index ≡ index + many
   state : e .progress .state ≡ led part m (take many xs) .state
   memory : e .progress .memory ≡ led part m (take many xs) .memory
+
+refusal-by : (test : Bool) (a b : Ended) → a .refusal ≢ 3 → b .refusal ≢ 3 → cond test a b .refusal ≢ 3
+refusal-by true a b h k = h
+refusal-by false a b h k = k
+
+end-not-three : (r : Record) → trace.numberOf r ≢ 3
+end-not-three (Whole word) e = omega arith
+end-not-three Leftover e = omega arith
+end-not-three End e = omega arith
 
 module _ (part : Part) where
   abbrev with-notes : Progress → Notes → Moment
@@ -65,6 +78,15 @@ module _ (part : Part) where
   start-by true g notes xs whole f = f
   start-by false g notes xs whole f = stays g notes xs 2 0
 
+  fold-not-three : (lenient : Bool) (last : ℕ) → last ≢ 3 → (xs : List ℕ) (index : ℕ) (g : Progress)
+      → folded lenient (stepped part) last xs index g .refusal ≢ 3
+  unfolding folded
+  fold-not-three lenient last h [] index g = h
+  fold-not-three lenient last h (x ∷ xs) index g =
+      let a = stepped part x (g .state) (g .memory) in
+      refusal-by (stops lenient (a .sampled .outcome)) (ended (sample.numberOf (a .sampled .outcome)) index g) _
+      (step-not-three part x (g .state) (g .memory)) (fold-not-three lenient last h xs (index + 1) (noted lenient index a g))
+
   module _ (m : Moment) (t : TrueCounts) (told : Told part m t) (lenient : Bool) (bytes answers marks : List ℕ) where
     run-follows : Follows part m (recordsFrom bytes 0 (wholeRecords bytes)) 0 (runFrom part m lenient bytes answers marks)
     unfolding runOf worked
@@ -73,6 +95,15 @@ module _ (part : Part) where
         (start-by (isDepth part (length (m .memory)) && roomy lenient (wholeRecords bytes) (length answers) (length marks))
         (started (m .state) (m .memory) answers marks) (m .notes) _ _
         (fold-follows lenient _ (recordsFrom bytes 0 (wholeRecords bytes)) 0 (started (m .state) (m .memory) answers marks) (m .notes) t told))
+
+    pub run-not-three : runFrom part m lenient bytes answers marks .refusal ≢ 3
+    unfolding runOf worked
+    run-not-three =
+        let g = started (m .state) (m .memory) answers marks in
+        rw (own-number part, reached-passes part (m .state) t (told .reached))
+        (refusal-by (isDepth part (length (m .memory)) && roomy lenient (wholeRecords bytes) (length answers) (length marks)) _ (ended 2 0 g)
+        (fold-not-three lenient (atEnd bytes) (end-not-three (recordAt bytes (wholeRecords bytes))) (recordsFrom bytes 0 (wholeRecords bytes)) 0 g)
+        (λ e. omega arith))
 
     pub run-led : let run = runFrom part m lenient bytes answers marks in let end = led part m (workedOn (run .index) bytes) in
         at (run .progress .state) (run .progress .memory) (end .notes) ≡ end

@@ -19,7 +19,7 @@ use Rattle.sides.specs.Clocks as clocks
 use Rattle.sides.specs.Read as read
 use Rattle.sides.specs.Write as write
 use Rattle.history.specs.Onlooker.{accepts, delivers, noted, reads, ready, retransmits, wentOn}
-use Rattle.history.specs.Trace.{acceptsWord, led, next, outcome, powerUp, readRises, shownBy, takes, undisturbed}
+use Rattle.history.specs.Trace.{acceptsWord, led, next, outcome, powerUp, rclkRisesIn, shownBy, takes, undisturbed}
 
 unfoldable pub zeros : List ℕ
 zeros = replicate 8192 0
@@ -54,7 +54,7 @@ pub record Watched : Type 0 where
   pub shown : Bool
 
 unfoldable pub watched : List ℕ → List ℕ → Watched
-unfolding acceptsWord accepts advanced answerOf cleared clocks.readRises clocks.writeRises defaults delivers fit inReach led linesOf loadParallel loadSerial loadedBy masterReset next noted offsetsAfter outcome packed partialReset passes powerUp poweredUp read.delivers read.readAfter read.readCountAfter read.reads read.ready read.retransmits read.secondAfterRead read.seesWord readNext readRises readingAfter reads recordRefusal refusalOf refusesEight refusesNine refusesSeven refusesSix refusesTen retransmits running sampled shownBy stateAfter stepped storeOf taken takes undisturbed wentOn widths withBit wordWritten write.accepts write.full write.secondAfterWrite write.takesAfter write.writeAfter write.writeCountAfter zeros
+unfolding acceptsWord accepts advanced answerOf cleared clocks.readRises clocks.writeRises defaults delivers fit inReach led linesOf loadParallel loadSerial loadedBy masterReset next noted offsetsAfter outcome packed partialReset passes powerUp poweredUp rclkRisesIn read.delivers read.readAfter read.readCountAfter read.reads read.ready read.retransmits read.secondAfterRead read.seesWord readNext readingAfter reads recordRefusal refusalOf refusesEight refusesNine refusesSeven refusesSix refusesTen retransmits running sampled shownBy stateAfter stepped storeOf taken takes undisturbed wentOn widths withBit wordWritten write.accepts write.full write.secondAfterWrite write.takesAfter write.writeAfter write.writeCountAfter zeros
 watched earlier later =
     let before = led Idt72V255LA (powerUp zeros) earlier in
     let word = next Idt72V255LA before wordWritten in
@@ -62,7 +62,7 @@ watched earlier later =
     record {
       accepted = acceptsWord Idt72V255LA before wordWritten;
       calm = undisturbed Idt72V255LA word later;
-      rises = readRises Idt72V255LA word later;
+      rises = rclkRisesIn Idt72V255LA word later;
       earlier = length (before .notes .accepted);
       delivered = length (after .notes .delivered);
       fwft = after .notes .fwft;

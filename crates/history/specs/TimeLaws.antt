@@ -6,6 +6,7 @@ use mathlib.Core.Path.{_≡_, refl, sym, _∙_}
 use lib.ListN.{length}
 use native.Mathlib.Omega.{arith}
 use Rattle.chip.specs.ReachLaws.{countsAfter}
+use Rattle.chip.specs.ResetLaws.{isFwft}
 use Rattle.counts.specs.declared.part.Part.{Part}
 use Rattle.counts.specs.Part.{depthOf}
 use Rattle.counts.specs.Sized.{part-sized}
@@ -22,8 +23,8 @@ use Rattle.views.specs.TrueCounts.{TrueCounts, afterRead, afterWrite, noCounts}
 use Rattle.history.specs.EventLaws.{accepts-told, ready-told, retransmits-told, rises-told}
 use Rattle.history.specs.LedLaws.{countsLed, countsNext, told-led, told-next}
 use Rattle.history.specs.Onlooker.{Notes, Shown, accepts, outside, rclkRises, ready, retransmits}
-use Rattle.history.specs.Told.{Told, isFwft}
-use Rattle.history.specs.Trace.{Moment, acceptsWord, led, next, readRises, shownBy, takes, undisturbed}
+use Rattle.history.specs.Told.{Told}
+use Rattle.history.specs.Trace.{Moment, acceptsWord, led, next, rclkRisesIn, shownBy, takes, undisturbed}
 
 -- a word's number is below the words accepted before each of so many latest rises of RCLK
 record Aged (rises number : ℕ) (t : TrueCounts) : Type 0 where
@@ -114,8 +115,8 @@ module _ (part : Part) where
       (countsAfter part (pinsOf x) (m .state) t) e (λ away still. aged-after part m t g (pinsOf x) away age number still h) h
 
   aged-led : (xs : List ℕ) (m : Moment) (t : TrueCounts) (age number : ℕ) → Told part m t → undisturbed part m xs ≡ true → Aged age number t
-      → Aged (age + readRises part m xs) number (countsLed part m xs t)
-  unfolding undisturbed readRises countsLed
+      → Aged (age + rclkRisesIn part m xs) number (countsLed part m xs t)
+  unfolding undisturbed rclkRisesIn countsLed
   aged-led [] m t age number g e h = same-age age (age + 0) number t (omega arith) h
   aged-led (x ∷ xs) m t age number g e h =
       let calm = not (takes part m x) || outside (pinsOf x) && not (retransmits (m .notes) (pinsOf x)) in
@@ -153,10 +154,10 @@ shows-ready part m t age number g h l undelivered =
 
 pub due-shown : (part : Part) (m : Moment) (t : TrueCounts) (x : ℕ) (later : List ℕ) → Told part m t → acceptsWord part m x ≡ true
     → let after = led part (next part m x) later in
-    undisturbed part (next part m x) later ≡ true → dueRise (after .notes .fwft) ≤ readRises part (next part m x) later
+    undisturbed part (next part m x) later ≡ true → dueRise (after .notes .fwft) ≤ rclkRisesIn part (next part m x) later
     → length (after .notes .delivered) ≤ length (m .notes .accepted) → ready (after .notes .fwft) (shownBy part (after .state)) ≡ true
 due-shown part m t x later g a calm due undelivered =
     let told = told-next part m t g x in
-    shows-ready part (led part (next part m x) later) (countsLed part (next part m x) later (countsNext part m x t)) (0 + readRises part (next part m x) later)
+    shows-ready part (led part (next part m x) later) (countsLed part (next part m x) later (countsNext part m x t)) (0 + rclkRisesIn part (next part m x) later)
     (length (m .notes .accepted)) (told-led part later (next part m x) (countsNext part m x t) told)
     (aged-led part later (next part m x) (countsNext part m x t) 0 (length (m .notes .accepted)) told calm (aged-new part m t x g a)) (omega arith) undelivered

@@ -1,19 +1,13 @@
 -- What holds between the model and the onlooker's notes at every moment from power-up on.
-use mathlib.Core.Bool.{Bool, true, false}
 use mathlib.Core.Path.{_≡_}
 use lib.ListN.{length, take}
 use Rattle.chip.specs.ReachLaws.{Reached}
+use Rattle.chip.specs.ResetLaws.{isFwft}
 use Rattle.counts.specs.declared.part.Part.{Part}
 use Rattle.counts.specs.Part.{depthOf}
-use Rattle.sides.specs.declared.read.Mode.{Mode}
-use Rattle.sides.specs.declared.read.Mode.the-variants.{Standard, Fwft}
 use Rattle.views.specs.TrueCounts.{TrueCounts}
 use Rattle.history.specs.Trace.{Moment}
 use Rattle.history.specs.WordLaws.{Holds}
-
-abbrev pub isFwft : Mode → Bool
-isFwft Standard = false
-isFwft (Fwft untaken) = true
 
 -- of the notes: the levels and the mode are the model's, as many words are noted as the true counts say, memory holds the last of
 -- those accepted, and those delivered are the first of them

@@ -11,6 +11,7 @@ use Rattle.chip.specs.declared.state.State.{State}
 use Rattle.chip.specs.Advance.{advanced, running, stateAfter, storeOf, stored}
 use Rattle.chip.specs.ReachLaws.{countsAfter}
 use Rattle.chip.specs.Reset.{cleared, keptMode, masterReset, partialReset, selectedMode}
+use Rattle.chip.specs.ResetLaws.{isFwft}
 use Rattle.counts.specs.declared.part.Part.{Part}
 use Rattle.counts.specs.Part.{depthOf}
 use Rattle.fifo.specs.Sample.{fetchedFor}
@@ -22,7 +23,7 @@ use Rattle.sides.specs.declared.read.Mode.the-variants.{Standard, Fwft}
 use Rattle.sides.specs.Write.{accepts}
 use Rattle.views.specs.TrueCounts.{TrueCounts, noCounts}
 use Rattle.history.specs.Onlooker.{Notes, noted, startedOver, wentOn}
-use Rattle.history.specs.Told.{Agrees, Told, isFwft}
+use Rattle.history.specs.Told.{Agrees, Told}
 use Rattle.history.specs.Trace.{Moment, at, shownBy}
 use Rattle.history.specs.WentOnLaws.{agrees-on}
 

@@ -1,18 +1,22 @@
 -- A trace, sample by sample through the model's own definition of one sample, with an onlooker beside it.
-use Prim.Native.Nat.{ℕ, _+_}
+use Prim.Native.Nat.{ℕ, zero, suc, _+_, _*_, _^_}
 use mathlib.Core.Bool.{Bool, true, false, not, cond, _&&_, _||_}
 use mathlib.Core.List.{List, [], _∷_}
-use lib.ListN.{take}
+use mathlib.Core.Path.{_≡_}
+use lib.ListN.{getD, take}
 use Rattle.chip.specs.declared.state.State.{State}
 use Rattle.chip.specs.Answer.{linesOf}
 use Rattle.chip.specs.Reset.{poweredUp}
 use Rattle.counts.specs.declared.part.Part.{Part}
 use Rattle.counts.specs.Part.{numberOf}
+use Rattle.counts.specs.Round.{placeOf}
 use Rattle.fifo.specs.declared.sample.Outcome.{Outcome}
 use Rattle.fifo.specs.declared.sample.Outcome.the-variants.{Taken, Refused}
 use Rattle.fifo.specs.Run.{Ended, runOf, started}
 use Rattle.fifo.specs.Sample.{After, sampled}
-use Rattle.pins.specs.Record.{pinsOf}
+use Rattle.offsets.specs.declared.reading.Shows.the-variants.{Register}
+use Rattle.pins.specs.declared.record.Pins.{Pins}
+use Rattle.pins.specs.Record.{bit, pinsOf, word}
 use Rattle.pins.specs.Trace.{recordsFrom, wholeRecords}
 use Rattle.history.specs.Onlooker.{Notes, Shown, accepts, blank, noted, outside, rclkRises, retransmits}
 
@@ -28,9 +32,24 @@ at s memory notes = record { state = s; memory = memory; notes = notes }
 unfoldable pub powerUp : List ℕ → Moment
 powerUp memory = at poweredUp memory blank
 
--- the flags are those of the answer; OE has no part in them
+-- so many words that a memory holds from the place of a count on
+unfoldable pub wordsFrom : ℕ → List ℕ → ℕ → ℕ → List ℕ
+wordsFrom depth memory count zero = []
+wordsFrom depth memory count (suc many) = getD memory (placeOf depth count) 0 ∷ wordsFrom depth memory (count + 1) many
+
+-- OE has no part in the flags
 unfoldable pub shownBy : Part → State → Shown
 shownBy part s = record { ff = linesOf part false s .ff; ef = linesOf part false s .ef; register = s .read .output }
+
+-- what an answer's bits give is what the onlooker sees: the two flags, and the output register where OE is LOW and no offset is shown
+pub record Answers (part : Part) (p : Pins) (s : State) (answer : ℕ) : Type 0 where
+  pub ff : bit 23 answer ≡ shownBy part s .ff
+  pub ef : bit 22 answer ≡ shownBy part s .ef
+  pub register : p .oe ≡ false → s .reading .shows ≡ Register → word answer ≡ shownBy part s .register
+
+-- an answer in its three bytes, the first of most weight
+unfoldable pub answerIn : List ℕ → ℕ
+answerIn room = getD room 0 0 * 2 ^ 16 + getD room 1 0 * 2 ^ 8 + getD room 2 0
 
 abbrev pub isTaken : Outcome → Bool
 isTaken (Taken answer) = true
@@ -74,9 +93,9 @@ module _ (part : Part) where
   undisturbed m (x ∷ xs) = (not (takes m x) || outside (pinsOf x) && not (retransmits (m .notes) (pinsOf x))) && undisturbed (next m x) xs
 
   -- how often RCLK rises in samples that are taken
-  unfoldable pub readRises : Moment → List ℕ → ℕ
-  readRises m [] = 0
-  readRises m (x ∷ xs) = cond (takes m x && rclkRises (m .notes) (pinsOf x)) 1 0 + readRises (next m x) xs
+  unfoldable pub rclkRisesIn : Moment → List ℕ → ℕ
+  rclkRisesIn m [] = 0
+  rclkRisesIn m (x ∷ xs) = cond (takes m x && rclkRises (m .notes) (pinsOf x)) 1 0 + rclkRisesIn (next m x) xs
 
   -- a strict or a lenient run over a trace's bytes that goes on from a moment
   abbrev pub runFrom : Moment → Bool → List ℕ → List ℕ → List ℕ → Ended

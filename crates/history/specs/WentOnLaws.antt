@@ -3,17 +3,19 @@ use Prim.Native.Nat.{ℕ, _≤_, _<_}
 use mathlib.Core.Bool.{Bool, true, false, cond}
 use mathlib.Core.List.{List, [], _∷_, _++_}
 use mathlib.Core.Path.{_≡_, refl, sym, _∙_}
-use lib.ListN.{getD, length, length-set, set, take}
+use lib.ListN.{getD, length, set, take}
 use native.Mathlib.Omega.{arith}
 use Rattle.chip.specs.declared.advance.Store.{Store}
 use Rattle.chip.specs.declared.advance.Store.the-variants.{Keep, Put}
 use Rattle.chip.specs.declared.state.State.{State}
 use Rattle.chip.specs.Advance.{running, stored}
+use Rattle.chip.specs.ResetLaws.{isFwft}
 use Rattle.counts.specs.declared.part.Part.{Part}
 use Rattle.counts.specs.Part.{depthOf}
 use Rattle.counts.specs.Round.{placeOf}
 use Rattle.counts.specs.Sized.{part-sized}
 use Rattle.fifo.specs.Sample.{fetchedFor}
+use Rattle.fifo.specs.SampleLaws.{stored-length}
 use Rattle.pins.specs.declared.record.Pins.{Pins}
 use Rattle.pins.specs.Record.{word}
 use Rattle.sides.specs.declared.read.Mode.{Mode}
@@ -28,7 +30,7 @@ use Rattle.views.specs.TrueCounts.{TrueCounts}
 use Rattle.history.specs.EventLaws.{accepts-told, delivers-told, retransmits-told}
 use Rattle.history.specs.KeptLaws.{read-place}
 use Rattle.history.specs.Onlooker.{Shown, outside, wentOn}
-use Rattle.history.specs.Told.{Agrees, Told, isFwft}
+use Rattle.history.specs.Told.{Agrees, Told}
 use Rattle.history.specs.Trace.{Moment, at, shownBy}
 use Rattle.history.specs.WordLaws.{delivered-after, holds-after, length-after, take-after}
 
@@ -56,10 +58,6 @@ next-bound : (back one : Bool) (n many : ℕ) → n ≤ many → (one ≡ true �
 next-bound true one n many h l = omega arith
 next-bound false true n many h l = omega (arith, l refl)
 next-bound false false n many h l = h
-
-whole-by : (one : Bool) (memory : List ℕ) (place value : ℕ) → length (cond one (set memory place value) memory) ≡ length memory
-whole-by true memory place value = length-set memory place value
-whole-by false memory place value = refl
 
 module _ (part : Part) (m : Moment) (t : TrueCounts) (g : Told part m t) (p : Pins) where
   abbrev fetched : ℕ
@@ -128,7 +126,7 @@ module _ (part : Part) (m : Moment) (t : TrueCounts) (g : Told part m t) (p : Pi
         (trueAfter (depthOf part) p (m .state .write) (m .state .read) t)
     unfolding trueAfter
     agrees-on = record {
-      whole = rw memory-after (whole-by accepted (m .memory) _ (word (p .d)) ∙ g .agrees .whole);
+      whole = stored-length store (m .memory) ∙ g .agrees .whole;
       wclk = levels .0;
       rclk = levels .1;
       fwft = mode-kept;

@@ -12,11 +12,7 @@ use native.Mathlib.Omega.{arith}
 use Rattle.counts.specs.Round.{placeOf}
 use Rattle.counts.specs.Sized.{places-apart}
 use Rattle.pins.specs.Record.{word}
-
--- so many words that a memory holds from the place of a count on
-unfoldable pub wordsFrom : ℕ → List ℕ → ℕ → ℕ → List ℕ
-wordsFrom depth memory count zero = []
-wordsFrom depth memory count (suc many) = getD memory (placeOf depth count) 0 ∷ wordsFrom depth memory (count + 1) many
+use Rattle.history.specs.Trace.{wordsFrom}
 
 -- the memory holds the last of the words accepted, as many as it is deep; each is of 18 bits
 abbrev pub Holds : ℕ → List ℕ → List ℕ → Type 0

@@ -11,12 +11,12 @@ use Rattle.views.specs.declared.retransmit.View.the-variants.{Unseen, Taken, Se
 use Rattle.views.specs.declared.stages.ReadRise.{ReadRise}
 use Rattle.views.specs.declared.stages.ReadRise.the-variants as readRise
 use Rattle.views.specs.Retransmit.{isSeen, justBegun}
-use Rattle.views.specs.Stages.{looksPast}
-use Rattle.views.specs.TrueCounts.{MayAccept, Ordered, TakesRead, TrueCounts, across, readSince}
+use Rattle.views.specs.Stages.{looksPast, readRose}
+use Rattle.views.specs.TrueCounts.{MayAccept, Ordered, TakesRead, TrueCounts, across}
 
 pub takes-read : (depth : ℕ) (wclk : Bool) (t : TrueCounts) (view : View) (setup : Setup) (latest : ReadRise) (met : Bool)
-    → Ordered depth view (justBegun setup) wclk (readSince latest) t
-    → TakesRead view (justBegun setup) (fromAfter (looksPast met latest) setup) t (across met (readSince latest) (t .read) (t .readBefore))
+    → Ordered depth view (justBegun setup) wclk (readRose latest) t
+    → TakesRead view (justBegun setup) (fromAfter (looksPast met latest) setup) t (across met (readRose latest) (t .read) (t .readBefore))
 takes-read depth wclk t Seen setup readRise.NoneSince met o = omega arith
 takes-read depth wclk t Seen setup (readRise.Before count) true o = omega arith
 takes-read depth wclk t Seen setup (readRise.Before count) false o = omega arith

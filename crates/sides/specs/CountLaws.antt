@@ -20,7 +20,8 @@ use Rattle.sides.specs.Tracks.{Allowed, Tracks, Owes, nextTrue, trueAfte
 use Rattle.sides.specs.Write.{accepts, full, secondAfterWrite, takesAfter, writeAfter, writeCountAfter}
 use Rattle.views.specs.OrderLaws.{ordered-read, ordered-write, setting-after, takes-written}
 use Rattle.views.specs.Retransmit.{justBegun, looked, setupAfter, viewAfter}
-use Rattle.views.specs.TrueCounts.{MayMove, Ordered, Setting, TakesWritten, TrueCounts, When, across, afterWrite, readSince, writeSince}
+use Rattle.views.specs.Stages.{readRose, writeRose}
+use Rattle.views.specs.TrueCounts.{MayMove, Ordered, Setting, TakesWritten, TrueCounts, When, across, afterWrite}
 
 pub grows : (one : Bool) (count : ℕ) → count ≤ cond one (count + 1) count
 grows true count = omega arith
@@ -32,22 +33,22 @@ since-now false now before = tt
 
 module _ (depth : ℕ) (z : Sized depth) (w : WriteSide) (r : ReadSide) (t : TrueCounts) (g : Tracks depth w r t) (p : Pins) (a : Allowed depth p w r t) where
   abbrev takenNow : ℕ
-  takenNow = across (p .skew .read) (writeSince (r .latest)) (t .written) (t .writtenBefore)
+  takenNow = across (p .skew .read) (writeRose (r .latest)) (t .written) (t .writtenBefore)
 
   abbrev afterWriting : TrueCounts
-  afterWriting = afterWrite (writeRises p w) (accepts depth p w) (across (p .skew .write) (readSince (w .latest)) (t .read) (t .readBefore)) t
+  afterWriting = afterWrite (writeRises p w) (accepts depth p w) (across (p .skew .write) (readRose (w .latest)) (t .read) (t .readBefore)) t
 
   ordered-between : Ordered depth (cond (writeRises p w) (looked (takesAfter p r w) (w .view)) (w .view)) (justBegun (r .setup))
-      (writeRises p w || writeSince (r .latest)) (not (writeRises p w) && readSince (w .latest)) afterWriting
+      (writeRises p w || writeRose (r .latest)) (not (writeRises p w) && readRose (w .latest)) afterWriting
   unfolding takesAfter accepts
   ordered-between =
-      ordered-write depth (writeSince (r .latest)) (readSince (w .latest)) t (writeRises p w) (w .view) (justBegun (r .setup)) (takesAfter p r w)
-      (accepts depth p w) _ (g .ordered) (takes-read depth (writeSince (r .latest)) t (w .view) (r .setup) (w .latest) (p .skew .write) (g .ordered))
+      ordered-write depth (writeRose (r .latest)) (readRose (w .latest)) t (writeRises p w) (w .view) (justBegun (r .setup)) (takesAfter p r w)
+      (accepts depth p w) _ (g .ordered) (takes-read depth (writeRose (r .latest)) t (w .view) (r .setup) (w .latest) (p .skew .write) (g .ordered))
       (may-accept depth t (writeRises p w) (p .ld) (p .wen) (full depth w) (w .view) (a .seen) (room-left depth z w r t g))
 
   taken-after : TakesWritten afterWriting takenNow
   taken-after =
-      let h = takes-written depth (w .view) (justBegun (r .setup)) (readSince (w .latest)) t (p .skew .read) (writeSince (r .latest)) (g .ordered) in
+      let h = takes-written depth (w .view) (justBegun (r .setup)) (readRose (w .latest)) t (p .skew .read) (writeRose (r .latest)) (g .ordered) in
       let more = grows (accepts depth p w) (t .written) in
       omega arith
 
@@ -66,13 +67,13 @@ module _ (depth : ℕ) (z : Sized depth) (w : WriteSide) (r : ReadSide) (t : Tru
 
   ordered-after : Ordered depth (viewAfter (retransmits p r) (writeRises p w) (takesAfter p r w) (w .view))
       (justBegun (setupAfter (readRises p r) (p .rt) (r .setup)))
-      (cond (readRises p r) (writeRises p w) (writeRises p w || writeSince (r .latest)))
-      (readRises p r || not (writeRises p w) && readSince (w .latest)) (trueAfter depth p w r t)
+      (cond (readRises p r) (writeRises p w) (writeRises p w || writeRose (r .latest)))
+      (readRises p r || not (writeRises p w) && readRose (w .latest)) (trueAfter depth p w r t)
   unfolding retransmits trueAfter
   ordered-after =
       ordered-read depth _ _ afterWriting (readRises p r) (p .rt) _ (r .setup) (writeRises p w)
       (nextTrue (retransmits p r) (delivers p r) (t .read)) takenNow (t .written) ordered-between taken-after
-      (takes-written depth (w .view) (justBegun (r .setup)) (readSince (w .latest)) t (p .skew .read) (writeSince (r .latest)) (g .ordered) .high)
+      (takes-written depth (w .view) (justBegun (r .setup)) (readRose (w .latest)) t (p .skew .read) (writeRose (r .latest)) (g .ordered) .high)
       (grows (accepts depth p w) (t .written)) (since-now (writeRises p w) (t .written) (t .writtenBefore)) moves
 
   setting-now : let u = trueAfter depth p w r t in Setting (setupAfter (readRises p r) (p .rt) (r .setup)) (u .oneAgo) (u .twoAgo) (u .threeAgo)

@@ -11,8 +11,8 @@ use Rattle.views.specs.declared.stages.ReadRise.{ReadRise}
 use Rattle.views.specs.declared.stages.ReadRise.the-variants as readRise
 use Rattle.views.specs.declared.stages.WriteRise.{WriteRise}
 use Rattle.views.specs.declared.stages.WriteRise.the-variants as writeRise
-use Rattle.views.specs.Stages.{latestRead, latestWrite, takenRead, takenWrite}
-use Rattle.views.specs.TrueCounts.{across, readSince, writeSince}
+use Rattle.views.specs.Stages.{latestRead, latestWrite, readRose, takenRead, takenWrite, writeRose}
+use Rattle.views.specs.TrueCounts.{across}
 
 pub read-round : (retransmitted delivered : Bool) (count : ReadCount) (read : ℕ) → count .0 ≡ read % width
     → cond {A = ReadCount} retransmitted (record { 0 = 0 }) (nextRead delivered count) .0 ≡ nextTrue retransmitted delivered read % width
@@ -27,13 +27,13 @@ stage-round held true taken kept one two e f = e
 stage-round held false taken kept one two e f = f
 
 pub taken-read : (met : Bool) (latest : ReadRise) (count : ReadCount) (read before : ℕ) → count .0 ≡ read % width → RemembersRead latest before
-    → takenRead met latest count .0 ≡ across met (readSince latest) read before % width
+    → takenRead met latest count .0 ≡ across met (readRose latest) read before % width
 taken-read met readRise.NoneSince count read before e f = e
 taken-read true (readRise.Before earlier) count read before e f = e
 taken-read false (readRise.Before earlier) count read before e f = f
 
 pub taken-write : (met : Bool) (latest : WriteRise) (count : WriteCount) (written before : ℕ) → count .0 ≡ written % width → RemembersWrite latest before
-    → takenWrite met latest count .0 ≡ across met (writeSince latest) written before % width
+    → takenWrite met latest count .0 ≡ across met (writeRose latest) written before % width
 taken-write met writeRise.NoneSince count written before e f = e
 taken-write true (writeRise.Before earlier) count written before e f = e
 taken-write false (writeRise.Before earlier) count written before e f = f
@@ -50,13 +50,13 @@ remembers-write own true count latest written before e f = e
 remembers-write true false count latest written before e f = tt
 remembers-write false false count latest written before e f = f
 
-pub since-read : (own other : Bool) (count : ReadCount) (latest : ReadRise) → readSince (latestRead own other count latest) ≡ other || not own && readSince latest
+pub since-read : (own other : Bool) (count : ReadCount) (latest : ReadRise) → readRose (latestRead own other count latest) ≡ other || not own && readRose latest
 since-read own true count latest = refl
 since-read true false count latest = refl
 since-read false false count latest = refl
 
 pub since-write : (own other : Bool) (count : WriteCount) (latest : WriteRise)
-    → writeSince (latestWrite own other count latest) ≡ cond own other (other || writeSince latest)
+    → writeRose (latestWrite own other count latest) ≡ cond own other (other || writeRose latest)
 since-write true true count latest = refl
 since-write false true count latest = refl
 since-write true false count latest = refl

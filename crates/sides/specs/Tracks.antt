@@ -17,7 +17,8 @@ use Rattle.views.specs.declared.stages.ReadRise.the-variants as readRise
 use Rattle.views.specs.declared.stages.WriteRise.{WriteRise}
 use Rattle.views.specs.declared.stages.WriteRise.the-variants as writeRise
 use Rattle.views.specs.Retransmit.{isSeen, justBegun}
-use Rattle.views.specs.TrueCounts.{Ordered, Setting, TrueCounts, across, afterRead, afterWrite, readSince, writeSince}
+use Rattle.views.specs.Stages.{readRose, writeRose}
+use Rattle.views.specs.TrueCounts.{Ordered, Setting, TrueCounts, across, afterRead, afterWrite}
 
 abbrev pub RemembersRead : ReadRise → ℕ → Type 0
 RemembersRead readRise.NoneSince before = Unit {0}
@@ -43,7 +44,7 @@ pub record Tracks (depth : ℕ) (w : WriteSide) (r : ReadSide) (t : TrueCounts) 
   pub readSecond : r .second .0 ≡ t .readSecond % width
   pub latestRead : RemembersRead (w .latest) (t .readBefore)
   pub latestWrite : RemembersWrite (r .latest) (t .writtenBefore)
-  pub ordered : Ordered depth (w .view) (justBegun (r .setup)) (writeSince (r .latest)) (readSince (w .latest)) t
+  pub ordered : Ordered depth (w .view) (justBegun (r .setup)) (writeRose (r .latest)) (readRose (w .latest)) t
   pub setting : Setting (r .setup) (t .oneAgo) (t .twoAgo) (t .threeAgo)
   pub owes : Owes (r .mode) (t .fourAgo) (t .read)
 
@@ -61,5 +62,5 @@ nextTrue retransmits delivers read = cond retransmits 0 (cond delivers (read + 1
 unfoldable pub trueAfter : ℕ → Pins → WriteSide → ReadSide → TrueCounts → TrueCounts
 trueAfter depth p w r t =
     afterRead (readRises p r) (retransmits p r) (nextTrue (retransmits p r) (delivers p r) (t .read))
-    (across (p .skew .read) (writeSince (r .latest)) (t .written) (t .writtenBefore)) (t .written)
-    (afterWrite (writeRises p w) (accepts depth p w) (across (p .skew .write) (readSince (w .latest)) (t .read) (t .readBefore)) t)
+    (across (p .skew .read) (writeRose (r .latest)) (t .written) (t .writtenBefore)) (t .written)
+    (afterWrite (writeRises p w) (accepts depth p w) (across (p .skew .write) (readRose (w .latest)) (t .read) (t .readBefore)) t)

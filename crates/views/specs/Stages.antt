@@ -1,11 +1,20 @@
 -- The two sides, on the stages.
-use mathlib.Core.Bool.{Bool, false, not, cond}
+use mathlib.Core.Bool.{Bool, true, false, not, cond}
 use Rattle.counts.specs.declared.round.ReadCount.{ReadCount}
 use Rattle.counts.specs.declared.round.WriteCount.{WriteCount}
 use Rattle.views.specs.declared.stages.ReadRise.{ReadRise}
 use Rattle.views.specs.declared.stages.ReadRise.the-variants as readRise
 use Rattle.views.specs.declared.stages.WriteRise.{WriteRise}
 use Rattle.views.specs.declared.stages.WriteRise.the-variants as writeRise
+
+-- the other clock has risen since this side's last rise
+abbrev pub readRose : ReadRise → Bool
+readRose readRise.NoneSince = false
+readRose (readRise.Before count) = true
+
+abbrev pub writeRose : WriteRise → Bool
+writeRose writeRise.NoneSince = false
+writeRose (writeRise.Before count) = true
 
 -- into the first stage: the other side's count before the sample, or, with the skew missed, the one that a remembered
 -- rise found

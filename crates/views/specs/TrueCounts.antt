@@ -6,10 +6,6 @@ use Rattle.views.specs.declared.retransmit.Setup.{Setup}
 use Rattle.views.specs.declared.retransmit.Setup.the-variants.{Over, OneMore, TwoMore}
 use Rattle.views.specs.declared.retransmit.View.{View}
 use Rattle.views.specs.declared.retransmit.View.the-variants.{Unseen, Taken, Seen}
-use Rattle.views.specs.declared.stages.ReadRise.{ReadRise}
-use Rattle.views.specs.declared.stages.ReadRise.the-variants as readRise
-use Rattle.views.specs.declared.stages.WriteRise.{WriteRise}
-use Rattle.views.specs.declared.stages.WriteRise.the-variants as writeRise
 
 pub record TrueCounts : Type 0 where
   -- words accepted since reset, and words delivered since reset or retransmit
@@ -79,15 +75,6 @@ afterRead rises retransmits next taken before t = record {
   threeAgo = cond retransmits 0 (cond rises (t .twoAgo) (t .threeAgo));
   fourAgo = cond retransmits 0 (cond rises (t .threeAgo) (t .fourAgo));
 }
-
--- the other clock has risen since this side's last rise
-abbrev pub writeSince : WriteRise → Bool
-writeSince writeRise.NoneSince = false
-writeSince (writeRise.Before count) = true
-
-abbrev pub readSince : ReadRise → Bool
-readSince readRise.NoneSince = false
-readSince (readRise.Before count) = true
 
 -- of a true count and the one before the latest rise, which a stage takes
 abbrev pub across : Bool → Bool → ℕ → ℕ → ℕ
