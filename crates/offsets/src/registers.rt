@@ -18,13 +18,13 @@ pub enum Next {
 }
 
 // `next` is the register that a parallel load goes to. `serial` holds the bits loaded so far, the first in the lowest
-// place, and `count` how many they are.
+// place, and `count` how many they are. The widest field stands first: padding is copied with every sample.
 pub struct Offsets {
+    pub serial: u32,
     pub n: u16,
     pub m: u16,
     pub method: Method,
     pub next: Next,
-    pub serial: u32,
     pub count: u8,
 }
 

@@ -1,6 +1,7 @@
 pub mod Clocks
 pub mod Read
 pub mod Write
+pub mod Held
 pub mod Laws
 pub mod SinceReset
 pub mod Tracks

@@ -1,5 +1,8 @@
 // The two sides, RCLK rise in both timing modes; and Retransmit on the read side.
+ghost use Rattle.sides.specs.Clocks.{readRises};
+ghost use Rattle.sides.specs.Held.{heldRead};
 ghost use Rattle.sides.specs.Read.{delivers, deliversBy, modeAfter, readAfter, reads, ready, readyBy, registerAfter, retransmits, seesWord};
+ghost use mathlib.Core.Bool.{true};
 ghost use mathlib.Core.Path.{_≡_};
 use super::write::WriteSide;
 use counts::round::ReadCount;
@@ -61,22 +64,33 @@ fn is_delivered(p: Pins, r: ReadSide) -> bool
 pub fn read_after(n: u16, p: Pins, fetched: u32, w: WriteSide, r: ReadSide) -> ReadSide
     ensures { λ q. ⌜ q ≡ readAfter n p fetched w r ⌝ }
 {
-    let rises = super::clocks::read_rises(p, r);
+    if super::clocks::read_rises(p, r) {
+        rise(n, p, fetched, w, r)
+    } else {
+        let latest = r.latest;
+        let other = super::clocks::write_rises(p, w);
+        hold(p.rclk, views::stages::remember_write(false, other, w.count, latest), r)
+    }
+}
+
+fn rise(n: u16, p: Pins, fetched: u32, w: WriteSide, r: ReadSide) -> ReadSide
+    requires { ⌜ readRises p r ≡ true ⌝ }
+    ensures { λ q. ⌜ q ≡ readAfter n p fetched w r ⌝ }
+{
     let retransmits = is_retransmit(p, r);
     let delivered = is_delivered(p, r);
     let moved = counts::round::next_read(delivered, r.count);
     let count = views::stages::pick_read(retransmits, ReadCount(0), moved);
     let latest = r.latest;
-    let taken = views::stages::take_write(p.skew.read, latest, w.count);
-    let first = views::stages::pick_write(rises, taken, r.first);
-    let second = views::stages::pick_write(rises, r.first, r.second);
+    let first = views::stages::take_write(p.skew.read, latest, w.count);
     let other = super::clocks::write_rises(p, w);
-    let remembered = views::stages::remember_write(rises, other, w.count, latest);
+    let remembered = views::stages::remember_write(true, other, w.count, latest);
     let before = r.setup;
-    let setup = views::retransmit::setup_after(rises, p.rt, before);
+    let setup = views::retransmit::setup_after(true, p.rt, before);
     let over = views::retransmit::is_over(setup);
+    let second = r.first;
     let low = views::flags::is_pae_low(n, counts::round::words_ahead(second, count));
-    let pae = views::stages::pick_level(rises & over, !low, r.pae);
+    let pae = views::stages::pick_level(over, !low, r.pae);
     let held = r.mode;
     let mode = mode_after(held, retransmits, delivered, is_read(p, r));
     let output = register_after(delivered, fetched, r.output);
@@ -90,6 +104,28 @@ pub fn read_after(n: u16, p: Pins, fetched: u32, w: WriteSide, r: ReadSide) -> R
         pae: pae,
         mode: mode,
         output: output,
+    }
+}
+
+// Where RCLK does not rise.
+pub fn hold(level: bool, latest: WriteRise, r: ReadSide) -> ReadSide
+    ensures { λ q. ⌜ q ≡ heldRead level latest r ⌝ }
+{
+    let count = r.count;
+    let first = r.first;
+    let second = r.second;
+    let setup = r.setup;
+    let mode = r.mode;
+    ReadSide {
+        level: level,
+        count: count,
+        first: first,
+        second: second,
+        latest: latest,
+        setup: setup,
+        pae: r.pae,
+        mode: mode,
+        output: r.output,
     }
 }
 

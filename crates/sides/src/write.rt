@@ -1,6 +1,9 @@
 // The two sides, WCLK rise; and Retransmit as the write side sees it.
 ghost use Rattle.counts.specs.Part.{depthOf};
+ghost use Rattle.sides.specs.Clocks.{writeRises};
+ghost use Rattle.sides.specs.Held.{heldWrite};
 ghost use Rattle.sides.specs.Write.{acceptedMore, acceptedNone, accepts, full, takesAfter, writeAfter};
+ghost use mathlib.Core.Bool.{true};
 ghost use mathlib.Core.Path.{_≡_};
 use super::read::ReadSide;
 use counts::part::Part;
@@ -11,15 +14,16 @@ use views::retransmit::View;
 use views::stages::ReadRise;
 
 // `level` is that of WCLK, `paf` that of PAF; `wrapped` says that a word since the last reset took the count round its width.
+// No two counts adjoin: a reset's zeros would make one wide number of them, to be taken apart in every sample.
 pub struct WriteSide {
     pub level: bool,
     pub count: WriteCount,
-    pub wrapped: bool,
-    pub first: ReadCount,
-    pub second: ReadCount,
-    pub latest: ReadRise,
     pub view: View,
+    pub first: ReadCount,
     pub paf: bool,
+    pub second: ReadCount,
+    pub wrapped: bool,
+    pub latest: ReadRise,
 }
 
 pub fn is_full(part: Part, w: WriteSide) -> bool
@@ -57,21 +61,35 @@ fn takes_after(p: Pins, r: ReadSide, w: WriteSide) -> bool
 pub fn write_after(part: Part, m: u16, p: Pins, r: ReadSide, w: WriteSide) -> WriteSide
     ensures { λ v. ⌜ v ≡ writeAfter (depthOf part) m p r w ⌝ }
 {
-    let rises = super::clocks::write_rises(p, w);
+    if super::clocks::write_rises(p, w) {
+        rise(part, m, p, r, w)
+    } else {
+        let latest = w.latest;
+        let view = w.view;
+        let other = super::clocks::read_rises(p, r);
+        let remembered = views::stages::remember_read(false, other, r.count, latest);
+        let seen = views::retransmit::view_after(super::read::is_retransmit(p, r), false, false, view);
+        hold(p.wclk, remembered, seen, w)
+    }
+}
+
+fn rise(part: Part, m: u16, p: Pins, r: ReadSide, w: WriteSide) -> WriteSide
+    requires { ⌜ writeRises p w ≡ true ⌝ }
+    ensures { λ v. ⌜ v ≡ writeAfter (depthOf part) m p r w ⌝ }
+{
     let accepted = accepts_word(part, p, w);
     let count = counts::round::next_write(accepted, w.count);
     let wraps = counts::round::is_last_of_width(w.count);
     let latest = w.latest;
-    let taken = views::stages::take_read(p.skew.write, latest, r.count);
-    let first = views::stages::pick_read(rises, taken, w.first);
-    let second = views::stages::pick_read(rises, w.first, w.second);
+    let first = views::stages::take_read(p.skew.write, latest, r.count);
     let other = super::clocks::read_rises(p, r);
-    let remembered = views::stages::remember_read(rises, other, r.count, latest);
+    let remembered = views::stages::remember_read(true, other, r.count, latest);
     let view = w.view;
     let retransmits = super::read::is_retransmit(p, r);
-    let seen = views::retransmit::view_after(retransmits, rises, takes_after(p, r, w), view);
+    let seen = views::retransmit::view_after(retransmits, true, takes_after(p, r, w), view);
+    let second = w.first;
     let words = counts::round::words_ahead(count, second);
-    let paf = views::stages::pick_level(rises, !views::flags::is_paf_low(part, m, words), w.paf);
+    let low = views::flags::is_paf_low(part, m, words);
     WriteSide {
         level: p.wclk,
         count: count,
@@ -80,6 +98,25 @@ pub fn write_after(part: Part, m: u16, p: Pins, r: ReadSide, w: WriteSide) -> Wr
         second: second,
         latest: remembered,
         view: seen,
-        paf: paf,
+        paf: !low,
+    }
+}
+
+// Where WCLK does not rise.
+pub fn hold(level: bool, latest: ReadRise, view: View, w: WriteSide) -> WriteSide
+    ensures { λ v. ⌜ v ≡ heldWrite level latest view w ⌝ }
+{
+    let count = w.count;
+    let first = w.first;
+    let second = w.second;
+    WriteSide {
+        level: level,
+        count: count,
+        wrapped: w.wrapped,
+        first: first,
+        second: second,
+        latest: latest,
+        view: view,
+        paf: w.paf,
     }
 }

@@ -1,32 +1,28 @@
-use Rattle.sides.specs.Read.{readAfter, readCountAfter, secondAfterRead}
+use Rattle.sides.specs.Held.{read-held}
 use borrow.Author.Needs.{needs}
+use mathlib.Core.Path.{sym, _∙_}
 use Rattle.sides.proofs.read.read_after.Statement.{statement}
 use Rattle.sides.proofs.read.read_after.Tie as tie
 
-returns : tie.Need-returns
-unfolding readAfter readCountAfter secondAfterRead
-returns c = simp (c .register-after .ensures, c .before .mode-after .ensures, c .before .before .is-read .ensures, c .before .before .before .pick-level .ensures, c .before .before .before .before .is-pae-low .ensures, c .before .before .before .before .before .words-ahead .ensures, c .before .before .before .before .before .before .is-over .ensures, c .before .before .before .before .before .before .before .setup-after .ensures, c .before .before .before .before .before .before .before .before .remember-write .ensures, c .before .before .before .before .before .before .before .before .before .write-rises .ensures, c .before .before .before .before .before .before .before .before .before .before .pick-write2 .ensures, c .before .before .before .before .before .before .before .before .before .before .before .pick-write .ensures, c .before .before .before .before .before .before .before .before .before .before .before .before .take-write .ensures, c .before .before .before .before .before .before .before .before .before .before .before .before .before .pick-read .ensures, c .before .before .before .before .before .before .before .before .before .before .before .before .before .before .next-read .ensures, c .before .before .before .before .before .before .before .before .before .before .before .before .before .before .before .is-delivered .ensures, c .before .before .before .before .before .before .before .before .before .before .before .before .before .before .before .before .is-retransmit .ensures, c .before .before .before .before .before .before .before .before .before .before .before .before .before .before .before .before .before .read-rises .ensures)
+rise-requires : tie.Need-rise-requires
+rise-requires c κs = sym (c .before .read-rises .ensures) ∙ c .if1 .taken
+
+returns-2 : tie.Need-returns-2
+returns-2 c =
+    let branch = c .before .before .before in
+    let asked = branch .before in
+    let args = asked .before .args in
+    let still = sym (asked .read-rises .ensures) ∙ branch .if1 .left in
+    simp (c .hold .ensures, c .before .remember-write .ensures, c .before .before .write-rises .ensures, read-held (args .n) (args .p) (args .fetched) (args .w) (args .r) still)
 
 pub read-after-spec : {M : Type 1} → statement M
 read-after-spec =
     tie.close
     (tie.spec
     (λ c κs. search needs)
+    rise-requires
     (λ c κs. search needs)
     (λ c κs. search needs)
     (λ c κs. search needs)
-    (λ c κs. search needs)
-    (λ c κs. search needs)
-    (λ c κs. search needs)
-    (λ c κs. search needs)
-    (λ c κs. search needs)
-    (λ c κs. search needs)
-    (λ c κs. search needs)
-    (λ c κs. search needs)
-    (λ c κs. search needs)
-    (λ c κs. search needs)
-    (λ c κs. search needs)
-    (λ c κs. search needs)
-    (λ c κs. search needs)
-    (λ c κs. search needs)
-    returns)
+    (λ c. c .rise .ensures)
+    returns-2)
