@@ -3,6 +3,7 @@ pub mod Reset
 pub mod Refuse
 pub mod Answer
 pub mod Advance
+pub mod Quiet
 pub mod Widths
 pub mod Counted
 pub mod Laws

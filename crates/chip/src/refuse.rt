@@ -1,4 +1,5 @@
 // What is turned away: 5 to 10.
+ghost use Rattle.chip.specs.Quiet.{fromEight, fromSix};
 ghost use Rattle.chip.specs.Refuse.{Refuses, retransmitMost, refusesEight, refusesFive, refusesNine, refusesSeven, refusesSix, refusesTen, severalLow, asksUnselected};
 ghost use Rattle.counts.specs.Part.{depthOf};
 ghost use mathlib.Core.Bool.{cond};
@@ -12,13 +13,44 @@ use sides::read::Mode;
 pub fn refusal(part: Part, p: Pins, s: State) -> u8
     ensures { λ r. ⌜ Refuses part p s r ⌝ }
 {
-    // From the last check to the first, so that the first that applies decides.
+    if refuses_five(p, s) {
+        5
+    } else if p.mrs & p.prs & super::quiet::clock_rises(p, s) {
+        refuse_rise(part, p, s)
+    } else {
+        0
+    }
+}
+
+// 6 and 7 are for LD LOW, 8 and 9 for a retransmit: each pair is looked at only there.
+fn refuse_rise(part: Part, p: Pins, s: State) -> u8
+    ensures { λ r. ⌜ r ≡ fromSix part p s ⌝ }
+{
+    let from_eight = refuse_from_eight(part, p, s);
+    if p.ld {
+        from_eight
+    } else {
+        pick(
+            refuses_six(p, s),
+            6,
+            pick(refuses_seven(p, s), 7, from_eight),
+        )
+    }
+}
+
+fn refuse_from_eight(part: Part, p: Pins, s: State) -> u8
+    ensures { λ r. ⌜ r ≡ fromEight part p s ⌝ }
+{
     let from_ten = pick(refuses_ten(p, s), 10, 0);
-    let from_nine = pick(refuses_nine(part, p, s), 9, from_ten);
-    let from_eight = pick(refuses_eight(p, s), 8, from_nine);
-    let from_seven = pick(refuses_seven(p, s), 7, from_eight);
-    let from_six = pick(refuses_six(p, s), 6, from_seven);
-    pick(refuses_five(p, s), 5, pick(p.mrs & p.prs, from_six, 0))
+    if sides::read::is_retransmit(p, s.read) {
+        pick(
+            refuses_eight(p, s),
+            8,
+            pick(refuses_nine(part, p, s), 9, from_ten),
+        )
+    } else {
+        from_ten
+    }
 }
 
 fn pick(applies: bool, number: u8, otherwise: u8) -> u8
@@ -36,9 +68,7 @@ fn refuses_five(p: Pins, s: State) -> bool
 fn refuses_six(p: Pins, s: State) -> bool
     ensures { λ r. ⌜ r ≡ refusesSix p s ⌝ }
 {
-    (sides::clocks::write_rises(p, s.write) | sides::clocks::read_rises(p, s.read))
-        & !p.ld
-        & several_low(p.wen, p.ren, p.sen)
+    super::quiet::clock_rises(p, s) & !p.ld & several_low(p.wen, p.ren, p.sen)
 }
 
 fn refuses_seven(p: Pins, s: State) -> bool

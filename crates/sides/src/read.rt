@@ -69,7 +69,11 @@ pub fn read_after(n: u16, p: Pins, fetched: u32, w: WriteSide, r: ReadSide) -> R
     } else {
         let latest = r.latest;
         let other = super::clocks::write_rises(p, w);
-        hold(p.rclk, views::stages::remember_write(false, other, w.count, latest), r)
+        hold(
+            p.rclk,
+            views::stages::remember_write(false, other, w.count, latest),
+            r,
+        )
     }
 }
 

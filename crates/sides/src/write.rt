@@ -68,7 +68,12 @@ pub fn write_after(part: Part, m: u16, p: Pins, r: ReadSide, w: WriteSide) -> Wr
         let view = w.view;
         let other = super::clocks::read_rises(p, r);
         let remembered = views::stages::remember_read(false, other, r.count, latest);
-        let seen = views::retransmit::view_after(super::read::is_retransmit(p, r), false, false, view);
+        let seen = views::retransmit::view_after(
+            super::read::is_retransmit(p, r),
+            false,
+            false,
+            view,
+        );
         hold(p.wclk, remembered, seen, w)
     }
 }

@@ -1,11 +1,27 @@
 use Rattle.chip.specs.Refuse.{refusalOf}
+use Rattle.chip.specs.Quiet.{past-five}
 use borrow.Author.Needs.{needs}
+use mathlib.Core.Path.{sym, _∙_}
 use Rattle.chip.proofs.refuse.refusal.Statement.{statement}
 use Rattle.chip.proofs.refuse.refusal.Tie as tie
 
 returns : tie.Need-returns
 unfolding refusalOf
-returns c = simp (c .pick7 .ensures, c .before .pick6 .ensures, c .before .before .before .refuses-five .ensures, c .before .before .before .before .pick5 .ensures, c .before .before .before .before .before .refuses-six .ensures, c .before .before .before .before .before .before .pick4 .ensures, c .before .before .before .before .before .before .before .refuses-seven .ensures, c .before .before .before .before .before .before .before .before .pick3 .ensures, c .before .before .before .before .before .before .before .before .before .refuses-eight .ensures, c .before .before .before .before .before .before .before .before .before .before .pick2 .ensures, c .before .before .before .before .before .before .before .before .before .before .before .refuses-nine .ensures, c .before .before .before .before .before .before .before .before .before .before .before .before .pick .ensures, c .before .before .before .before .before .before .before .before .before .before .before .before .before .refuses-ten .ensures)
+returns c = simp (← c .before .refuses-five .ensures, c .if1 .taken)
+
+returns-2 : tie.Need-returns-2
+returns-2 c =
+    let asked = c .before .before .before .before in
+    let args = asked .before .before .args in
+    let begun = sym (asked .before .refuses-five .ensures) ∙ asked .if1 .left in
+    simp (c .refuse-rise .ensures, past-five (args .part) (args .p) (args .s) begun, ← c .before .before .clock-rises .ensures, c .before .if2 .taken)
+
+returns-3 : tie.Need-returns-3
+returns-3 c =
+    let asked = c .before .before .before in
+    let args = asked .before .before .args in
+    let begun = sym (asked .before .refuses-five .ensures) ∙ asked .if1 .left in
+    simp (past-five (args .part) (args .p) (args .s) begun, ← c .before .clock-rises .ensures, c .if2 .left)
 
 pub refusal-spec : {M : Type 1} → statement M
 refusal-spec =
@@ -14,14 +30,6 @@ refusal-spec =
     (λ c κs. search needs)
     (λ c κs. search needs)
     (λ c κs. search needs)
-    (λ c κs. search needs)
-    (λ c κs. search needs)
-    (λ c κs. search needs)
-    (λ c κs. search needs)
-    (λ c κs. search needs)
-    (λ c κs. search needs)
-    (λ c κs. search needs)
-    (λ c κs. search needs)
-    (λ c κs. search needs)
-    (λ c κs. search needs)
-    returns)
+    returns
+    returns-2
+    returns-3)
