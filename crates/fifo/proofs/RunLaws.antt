@@ -26,7 +26,7 @@ use Rattle.fifo.specs.declared.sample.Outcome.{Outcome}
 use Rattle.fifo.specs.declared.sample.Outcome.the-variants.{Taken, Refused}
 use Rattle.fifo.specs.declared.sample.Sampled.{Sampled}
 use Rattle.fifo.specs.Run.{Ended, Ends, Progress, acceptedAfter, answersAfter, atEnd, ended, folded, marksAfter, noted, putAnswer, roomy, runOf, stops, worked}
-use Rattle.fifo.specs.Sample.{Gives, isDepth, numberOf, stepped}
+use Rattle.fifo.specs.Sample.{After, Gives, isDepth, numberOf, stepped}
 use Rattle.fifo.specs.SampleLaws.{refused-still, step-length, step-widths}
 
 pub no-whole : (r : Record) → (tagOf the-type r ≡ 1) ⊎ (tagOf the-type r ≡ 2) → isWhole r ≡ false
@@ -47,9 +47,9 @@ accepted-most : (outcome : Outcome) (accepted index : ℕ) → accepted ≤ inde
 accepted-most (Taken answer) accepted index h = omega arith
 accepted-most (Refused number) accepted index h = omega arith
 
-still-by : (lenient : Bool) (outcome : Outcome) (m n : List ℕ) → stops lenient outcome ≡ true → ((number : ℕ) → outcome ≡ Refused number → m ≡ n) → m ≡ n
-still-by lenient (Taken answer) m n e f = let z : _≡_ {A = ℕ} 0 1 = cc in absurd (omega arith)
-still-by lenient (Refused number) m n e f = f number refl
+still-by : {P : Type 0} (lenient : Bool) (outcome : Outcome) → stops lenient outcome ≡ true → ((number : ℕ) → outcome ≡ Refused number → P) → P
+still-by lenient (Taken answer) e f = let z : _≡_ {A = ℕ} 0 1 = cc in absurd (omega arith)
+still-by lenient (Refused number) e f = f number refl
 
 pub record Going (lenient : Bool) (part : Part) (bytes : List ℕ) (start g : Progress) (index : ℕ) : Type 0 where
   pub below : index ≤ wholeRecords bytes
@@ -104,10 +104,12 @@ module _ {lenient : Bool} {part : Part} {bytes : List ℕ} {start g : Progress} 
     unfolding folded
     stop-now s = sym (rw (next-record bytes index e) at (inv .same)) ∙ simp s
 
-    pub still-now : stops lenient (stepped part word (g .state) (g .memory) .sampled .outcome) ≡ true → stepped part word (g .state) (g .memory) .memory ≡ g .memory
+    pub still-now : stops lenient (stepped part word (g .state) (g .memory) .sampled .outcome) ≡ true
+        → (stepped part word (g .state) (g .memory) .sampled .state ≡ g .state) × (stepped part word (g .state) (g .memory) .memory ≡ g .memory)
     still-now s =
-        still-by lenient (stepped part word (g .state) (g .memory) .sampled .outcome) _ _ s
-        (λ number f. cc (refused-still part word (g .state) (g .memory) number f))
+        still-by lenient (stepped part word (g .state) (g .memory) .sampled .outcome) s
+        (λ number f. let still = refused-still part word (g .state) (g .memory) number f in
+        (ap (λ (a : After). a .sampled .state) still, ap (λ (a : After). a .memory) still))
 
     pub next-now : stops lenient (stepped part word (g .state) (g .memory) .sampled .outcome) ≡ false
         → Going lenient part bytes start (noted lenient index (stepped part word (g .state) (g .memory)) g) (index + 1)
@@ -135,13 +137,13 @@ module _ {lenient : Bool} {part : Part} {bytes : List ℕ} {start g : Progress} 
     module _ {word : ℕ} (e : r ≡ Whole word) {a : Sampled} {memory : List ℕ} (gives : Gives (stepped part word (g .state) (g .memory)) a memory)
         {stop : Bool} (t : stop ≡ stops lenient (a .outcome)) where
       pub stopped-now : {number : ℕ} → stop ≡ true → number ≡ numberOf (a .outcome)
-          → Ends (worked lenient part bytes start) (record { state = g .state; accepted = g .accepted; index = index; refusal = number })
+          → Ends (worked lenient part bytes start) (record { state = a .state; accepted = g .accepted; index = index; refusal = number })
           memory (g .answers) (g .marks)
       stopped-now s n =
           let there = sym f ∙ e in
           let stops′ = ap (λ (b : Sampled). stops lenient (b .outcome)) (sym (gives .result)) ∙ sym t ∙ s in
-          let same = gives .words ∙ still-now there stops′ in
-          rw same
+          let still = still-now there stops′ in
+          rw (ap (λ (b : Sampled). b .state) (gives .result) ∙ still .0, gives .words ∙ still .1)
           (ends (stop-now there stops′ ∙ ap (λ (k : ℕ). ended k index g) (ap (λ (b : Sampled). numberOf (b .outcome)) (sym (gives .result)) ∙ sym n)))
 
       pub turned-now : {accepted : ℕ} {answers marks : List ℕ} → stop ≡ false → answers ≡ answersAfter (a .outcome) index (g .answers)

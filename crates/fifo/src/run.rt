@@ -113,7 +113,8 @@ fn go(
         };
         let sampled = super::sample::step(part, word, s, memory);
         let outcome = sampled.outcome;
-        let next = sampled.state;
+        // A refused record leaves the state as it was: the old one is not needed beside the new one.
+        s = sampled.state;
         if is_stop(lenient, outcome) {
             return Ran {
                 state: s,
@@ -124,7 +125,6 @@ fn go(
         }
         note_answer(outcome, index, answers);
         note_mark(lenient, outcome, index, marks);
-        s = next;
         accepted = count(outcome, accepted);
         index += 1;
     }
