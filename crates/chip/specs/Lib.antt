@@ -4,6 +4,7 @@ pub mod Refuse
 pub mod Answer
 pub mod Advance
 pub mod Quiet
+pub mod QuietLaws
 pub mod Widths
 pub mod Counted
 pub mod Laws

@@ -1,23 +1,13 @@
--- A sample outside reset in which no clock rises: nothing but 5 refuses it, and only the two levels change.
+-- A sample outside reset in which no clock rises: the state with its two levels, and the part of the table that a rise needs.
 use Prim.Native.Nat.{ℕ}
-use mathlib.Core.Bool.{Bool, true, false, not, cond, _&&_, _||_, and-eq-true-iff, and-false}
-use borrow.Author.Tests.{not-true}
-use mathlib.Core.Path.{_≡_, refl}
+use mathlib.Core.Bool.{Bool, not, cond, _&&_, _||_}
 use Rattle.counts.specs.declared.part.Part.{Part}
 use Rattle.counts.specs.Part.{depthOf}
-use Rattle.offsets.specs.Loading.{offsetsAfter}
-use Rattle.offsets.specs.Reading.{readingAfter}
 use Rattle.pins.specs.declared.record.Pins.{Pins}
 use Rattle.sides.specs.Clocks.{readRises, writeRises}
-use Rattle.sides.specs.Held.{heldRead, heldWrite, read-held, write-held}
-use Rattle.sides.specs.Read.{ready, retransmits, seesWord}
-use Rattle.sides.specs.Write.{accepts, full}
-use Rattle.chip.specs.declared.advance.Advanced.{Advanced}
-use Rattle.chip.specs.declared.advance.Store.the-variants.{Keep}
+use Rattle.sides.specs.Held.{heldRead, heldWrite}
 use Rattle.chip.specs.declared.state.State.{State}
-use Rattle.chip.specs.Advance.{advanced, running, stateAfter, storeOf}
-use Rattle.chip.specs.Answer.{answerOf, linesOf}
-use Rattle.chip.specs.Refuse.{refusalOf, refusesEight, refusesFive, refusesNine, refusesSeven, refusesSix, refusesTen}
+use Rattle.chip.specs.Refuse.{refusesEight, refusesNine, refusesSeven, refusesSix, refusesTen}
 
 abbrev pub clockRises : Pins → State → Bool
 clockRises p s = writeRises p (s .write) || readRises p (s .read)
@@ -40,51 +30,3 @@ fromEight part p s = cond (refusesEight p s) 8 (cond (refusesNine (depthOf part)
 
 abbrev pub fromSix : Part → Pins → State → ℕ
 fromSix part p s = cond (refusesSix p s) 6 (cond (refusesSeven p s) 7 (fromEight part p s))
-
--- neither clock rises
-record Still (p : Pins) (s : State) : Type 0 where
-  write : writeRises p (s .write) ≡ false
-  read : readRises p (s .read) ≡ false
-
-still-by : (write read : Bool) → (write || read) ≡ false → (write ≡ false) × (read ≡ false)
-still-by false read e = (refl, e)
-still-by true read e = (e, cc)
-
-still : (p : Pins) (s : State) → clockRises p s ≡ false → Still p s
-still p s e = let both = still-by (writeRises p (s .write)) (readRises p (s .read)) e in record { write = both .0; read = both .1 }
-
-none-refused : (part : Part) (p : Pins) (s : State) → Still p s → fromSix part p s ≡ 0
-unfolding refusesSix refusesSeven refusesEight refusesNine refusesTen retransmits
-none-refused part p s e = simp (e .write, e .read)
-
-past-by : (outside rises : Bool) (number : ℕ) → (rises ≡ false → number ≡ 0) → cond outside number 0 ≡ cond (outside && rises) number 0
-past-by true true number none = refl
-past-by true false number none = none refl
-past-by false rises number none = refl
-
-pub past-five : (part : Part) (p : Pins) (s : State) → refusesFive p s ≡ false
-    → refusalOf part p s ≡ cond (p .mrs && p .prs && clockRises p s) (fromSix part p s) 0
-unfolding refusalOf
-past-five part p s e = simp e (past-by (p .mrs && p .prs) (clockRises p s) (fromSix part p s) (λ f. none-refused part p s (still p s f)))
-
-running-held : (part : Part) (p : Pins) (fetched : ℕ) (s : State) → Still p s → running part p fetched s ≡ held p s
-unfolding running held offsetsAfter readingAfter retransmits
-running-held part p fetched s e =
-    simp (write-held (depthOf part) (s .offsets .m) p (s .read) (s .write) (e .write), read-held (s .offsets .n) p fetched (s .write) (s .read) (e .read), e .write, e .read)
-
-answer-held : (part : Part) (p : Pins) (s : State) → answerOf part p (held p s) ≡ answerOf part p s
-unfolding answerOf linesOf held full ready seesWord
-answer-held part p s = refl
-
-nothing-stored : (part : Part) (p : Pins) (s : State) → Still p s → storeOf part p s ≡ Keep
-unfolding storeOf accepts
-nothing-stored part p s e = simp (e .write, and-false)
-
-pub quiet-advanced : (part : Part) (p : Pins) (fetched : ℕ) (s : State) → quiet p s ≡ true
-    → advanced part p fetched s ≡ record { state = held p s; answer = answerOf part p s; store = Keep }
-unfolding advanced stateAfter quiet
-quiet-advanced part p fetched s e =
-    let outside = and-eq-true-iff (p .mrs && p .prs) (not (clockRises p s)) .0 e in
-    let high = and-eq-true-iff (p .mrs) (p .prs) .0 (outside .0) in
-    let calm = still p s (not-true (clockRises p s) (outside .1)) in
-    simp (high .0, high .1, running-held part p fetched s calm, answer-held part p s, nothing-stored part p s calm)

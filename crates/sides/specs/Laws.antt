@@ -8,7 +8,7 @@ use Rattle.sides.specs.declared.read.Mode.the-variants.{Standard, Fwft}
 use Rattle.sides.specs.declared.read.ReadSide.{ReadSide}
 use Rattle.sides.specs.declared.write.WriteSide.{WriteSide}
 use Rattle.sides.specs.Clocks.{readRises}
-use Rattle.sides.specs.Held.{none-by}
+use Rattle.sides.specs.HeldLaws.{none-by}
 use Rattle.sides.specs.Read.{delivers, modeAfter, readAfter, readCountAfter, reads, ready, readyBy, retransmits, seesWord}
 
 pub record Retransmitted (r after : ReadSide) : Type 0 where

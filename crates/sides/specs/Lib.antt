@@ -2,6 +2,7 @@ pub mod Clocks
 pub mod Read
 pub mod Write
 pub mod Held
+pub mod HeldLaws
 pub mod Laws
 pub mod SinceReset
 pub mod Tracks

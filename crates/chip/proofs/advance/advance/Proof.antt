@@ -1,5 +1,5 @@
 use Rattle.chip.specs.Advance.{advanced}
-use Rattle.chip.specs.Quiet.{quiet-advanced}
+use Rattle.chip.specs.QuietLaws.{quiet-advanced}
 use borrow.Author.Needs.{needs}
 use mathlib.Core.Path.{sym, _∙_}
 use Rattle.chip.proofs.advance.advance.Statement.{statement}

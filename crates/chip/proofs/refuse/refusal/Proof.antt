@@ -1,5 +1,5 @@
 use Rattle.chip.specs.Refuse.{refusalOf}
-use Rattle.chip.specs.Quiet.{past-five}
+use Rattle.chip.specs.QuietLaws.{past-five}
 use borrow.Author.Needs.{needs}
 use mathlib.Core.Path.{sym, _∙_}
 use Rattle.chip.proofs.refuse.refusal.Statement.{statement}

@@ -1,4 +1,4 @@
-use Rattle.sides.specs.Held.{read-held}
+use Rattle.sides.specs.HeldLaws.{read-held}
 use borrow.Author.Needs.{needs}
 use mathlib.Core.Path.{sym, _∙_}
 use Rattle.sides.proofs.read.read_after.Statement.{statement}

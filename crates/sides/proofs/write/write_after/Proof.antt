@@ -1,5 +1,5 @@
 use Rattle.counts.specs.Part.{depthOf}
-use Rattle.sides.specs.Held.{write-held}
+use Rattle.sides.specs.HeldLaws.{write-held}
 use borrow.Author.Needs.{needs}
 use mathlib.Core.Path.{sym, _∙_}
 use Rattle.sides.proofs.write.write_after.Statement.{statement}
