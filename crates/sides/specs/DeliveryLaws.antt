@@ -8,7 +8,7 @@ use Rattle.sides.specs.declared.read.Mode.{Mode}
 use Rattle.sides.specs.declared.read.Mode.the-variants.{Standard, Fwft}
 use Rattle.sides.specs.declared.read.ReadSide.{ReadSide}
 use Rattle.sides.specs.Clocks.{readRises}
-use Rattle.sides.specs.Laws.{none-by}
+use Rattle.sides.specs.HeldLaws.{none-by}
 use Rattle.sides.specs.Read.{delivers, deliversBy, modeAfter, reads, ready, readyBy, seesWord}
 use Rattle.sides.specs.Tracks.{Owes, nextTrue}
 use Rattle.views.specs.declared.retransmit.Setup.{Setup}

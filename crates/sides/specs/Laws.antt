@@ -21,10 +21,6 @@ none-ready : (mode : Mode) (delivered read : Bool) → readyBy (modeAfter mode t
 none-ready Standard delivered read = refl
 none-ready (Fwft untaken) delivered read = refl
 
-pub none-by : (mode : Mode) → deliversBy mode false false ≡ false
-none-by Standard = refl
-none-by (Fwft untaken) = refl
-
 none-delivered : (p : Pins) (r : ReadSide) → readRises p r ≡ true → p .rt ≡ false → delivers p r ≡ false
 unfolding delivers reads
 none-delivered p r e low = simp (e, low, and-false) (none-by (r .mode))
