@@ -1,5 +1,5 @@
 -- The two sides: every count that a state holds is below the width, and stays so.
-use Prim.Native.Nat.{ℕ, _+_, _%_, _^_, _<_}
+use Prim.Native.Nat.{ℕ, _<_}
 use mathlib.Core.Bool.{Bool, true, false, cond}
 use native.Mathlib.Omega.{arith}
 use Rattle.counts.specs.declared.part.Part.{Part}
@@ -7,7 +7,7 @@ use Rattle.counts.specs.declared.round.ReadCount.{ReadCount}
 use Rattle.counts.specs.declared.round.WriteCount.{WriteCount}
 use Rattle.counts.specs.Either.{either}
 use Rattle.counts.specs.Part.{depthOf}
-use Rattle.counts.specs.Round.{more, nextRead, nextWrite, width}
+use Rattle.counts.specs.Round.{more, width}
 use Rattle.offsets.specs.declared.reading.Reading.{Reading}
 use Rattle.offsets.specs.declared.registers.Offsets.{Offsets}
 use Rattle.pins.specs.declared.record.Pins.{Pins}

@@ -16,8 +16,8 @@ use Rattle.chip.specs.declared.advance.Store.the-variants.{Keep}
 use Rattle.chip.specs.declared.state.State.{State}
 use Rattle.chip.specs.Advance.{advanced, running, stateAfter, storeOf}
 use Rattle.chip.specs.Answer.{answerOf, linesOf}
-use Rattle.chip.specs.Quiet.{clockRises, fromSix, held, quiet}
-use Rattle.chip.specs.Refuse.{refusalOf, refusesEight, refusesFive, refusesNine, refusesSeven, refusesSix, refusesTen}
+use Rattle.chip.specs.Quiet.{clockRises, held, quiet}
+use Rattle.chip.specs.Refuse.{fromSix, refusalOf, refusesEight, refusesFive, refusesNine, refusesSeven, refusesSix, refusesTen}
 
 -- neither clock rises
 record Still (p : Pins) (s : State) : Type 0 where

@@ -52,17 +52,22 @@ refusesNine depth p s =
 unfoldable pub refusesTen : Pins → State → Bool
 refusesTen p s = writeRises p (s .write) && p .ld && not (p .wen) && not (isSeen (s .write .view))
 
+-- the table from row 8 on, and from row 6 on
+abbrev pub fromEight : Part → Pins → State → ℕ
+fromEight part p s =
+    cond (refusesEight p s) 8
+    (cond (refusesNine (depthOf part) p s) 9
+    (cond (refusesTen p s) 10 0))
+
+abbrev pub fromSix : Part → Pins → State → ℕ
+fromSix part p s =
+    cond (refusesSix p s) 6
+    (cond (refusesSeven p s) 7
+    (fromEight part p s))
+
 -- the first number that applies, or 0; a reset passes over all but 5
 unfoldable pub refusalOf : Part → Pins → State → ℕ
-refusalOf part p s =
-    cond (refusesFive p s) 5
-    (cond (p .mrs && p .prs)
-    (cond (refusesSix p s) 6
-    (cond (refusesSeven p s) 7
-    (cond (refusesEight p s) 8
-    (cond (refusesNine (depthOf part) p s) 9
-    (cond (refusesTen p s) 10 0)))))
-    0)
+refusalOf part p s = cond (refusesFive p s) 5 (cond (p .mrs && p .prs) (fromSix part p s) 0)
 
 abbrev pub Refuses : Part → Pins → State → ℕ → Type 0
 Refuses part p s r = r ≡ refusalOf part p s

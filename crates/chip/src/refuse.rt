@@ -1,6 +1,5 @@
 // What is turned away: 5 to 10.
-ghost use Rattle.chip.specs.Quiet.{fromEight, fromSix};
-ghost use Rattle.chip.specs.Refuse.{Refuses, retransmitMost, refusesEight, refusesFive, refusesNine, refusesSeven, refusesSix, refusesTen, severalLow, asksUnselected};
+ghost use Rattle.chip.specs.Refuse.{Refuses, fromEight, fromSix, retransmitMost, refusesEight, refusesFive, refusesNine, refusesSeven, refusesSix, refusesTen, severalLow, asksUnselected};
 ghost use Rattle.counts.specs.Part.{depthOf};
 ghost use mathlib.Core.Bool.{cond};
 ghost use mathlib.Core.Path.{_≡_};

@@ -107,7 +107,7 @@ fn rise(part: Part, m: u16, p: Pins, r: ReadSide, w: WriteSide) -> WriteSide
     }
 }
 
-// Where WCLK does not rise.
+// Where WCLK does not rise. Field by field: a copy that is then changed keeps the compiler from holding the fields apart.
 pub fn hold(level: bool, latest: ReadRise, view: View, w: WriteSide) -> WriteSide
     ensures { λ v. ⌜ v ≡ heldWrite level latest view w ⌝ }
 {
