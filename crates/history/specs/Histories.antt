@@ -89,31 +89,32 @@ in-time part memory whole earlier x later w =
     due-shown part (led part (powerUp memory) earlier) _ x later (told-after part memory whole earlier)
     (w .accepted) (w .calm) (w .risen) (w .undelivered)
 
--- What the onlooker sees after a sample that is taken is what its answer gives,
-pub answered : (part : Part) (memory : List ℕ) → length memory ≡ depthOf part → (samples : List ℕ) (x answer : ℕ)
-    → let m = led part (powerUp memory) samples in
-    outcome part m x .sampled .outcome ≡ Taken answer → Answers part (pinsOf x) (next part m x .state) answer
-answered part memory whole samples x =
-    answers-taken part (led part (powerUp memory) samples) _ (told-after part memory whole samples) x
+-- The answer to a sample `y` that comes after others tells it: for any word among theirs that still waits after `y`, the bit of
+-- EF and OR shows one ready.
+abbrev pub TellsInTime : Part → List ℕ → List ℕ → ℕ → ℕ → Type 0
+TellsInTime part memory samples y answer =
+    (earlier : List ℕ) (x : ℕ) (later : List ℕ) → samples ≡ earlier ++ (x ∷ later)
+    → Waiting 3 4 part (led part (powerUp memory) earlier) x (later ++ (y ∷ []))
+    → tellsReady (next part (led part (powerUp memory) samples) y .notes .fwft) (bit 22 answer) ≡ true
 
-tells-by : (part : Part) (memory : List ℕ) → length memory ≡ depthOf part → (earlier : List ℕ) (x : ℕ) (later : List ℕ) (y answer : ℕ)
-    → let m = led part (powerUp memory) (earlier ++ (x ∷ later)) in
-    Answers part (pinsOf y) (next part m y .state) answer → Waiting 3 4 part (led part (powerUp memory) earlier) x (later ++ (y ∷ []))
-    → tellsReady (next part m y .notes .fwft) (bit 22 answer) ≡ true
+tells-by : (part : Part) (memory : List ℕ) → length memory ≡ depthOf part → (samples : List ℕ) (y answer : ℕ)
+    → Answers part (pinsOf y) (next part (led part (powerUp memory) samples) y .state) answer → TellsInTime part memory samples y answer
 unfolding led
-tells-by part memory whole earlier x later y answer given w =
+tells-by part memory whole samples y answer given earlier x later e w =
     let start = led part (powerUp memory) earlier in
-    let there : led part (next part start x) (later ++ (y ∷ [])) ≡ next part (led part (powerUp memory) (earlier ++ (x ∷ later))) y =
-    led-parts part later (y ∷ []) (next part start x) ∙ ap (λ (m : Moment). next part m y) (sym (led-parts part earlier (x ∷ later) (powerUp memory))) in
+    let there : led part (next part start x) (later ++ (y ∷ [])) ≡ next part (led part (powerUp memory) samples) y =
+    led-parts part later (y ∷ []) (next part start x)
+    ∙ ap (λ (m : Moment). next part m y) (sym (ap (led part (powerUp memory)) e ∙ led-parts part earlier (x ∷ later) (powerUp memory))) in
     rw (given .ef) (subst (λ (m : Moment). Ready part (m .notes .fwft) (m .state)) there (in-time part memory whole earlier x (later ++ (y ∷ [])) w))
 
--- and so the bit of EF and OR in the answer of a sample `y`, after which the word still waits, tells in time that one is ready.
-pub answer-in-time : (part : Part) (memory : List ℕ) → length memory ≡ depthOf part → (earlier : List ℕ) (x : ℕ) (later : List ℕ) (y answer : ℕ)
-    → let m = led part (powerUp memory) (earlier ++ (x ∷ later)) in
-    outcome part m y .sampled .outcome ≡ Taken answer → Waiting 3 4 part (led part (powerUp memory) earlier) x (later ++ (y ∷ []))
-    → tellsReady (next part m y .notes .fwft) (bit 22 answer) ≡ true
-answer-in-time part memory whole earlier x later y answer taken =
-    tells-by part memory whole earlier x later y answer (answered part memory whole (earlier ++ (x ∷ later)) y answer taken)
+-- What a taken sample is answered is what the onlooker sees after it, and tells in time.
+module _ (part : Part) (memory : List ℕ) (whole : length memory ≡ depthOf part) (samples : List ℕ) (y answer : ℕ)
+    (taken : outcome part (led part (powerUp memory) samples) y .sampled .outcome ≡ Taken answer) where
+  pub answered : Answers part (pinsOf y) (next part (led part (powerUp memory) samples) y .state) answer
+  answered = answers-taken part (led part (powerUp memory) samples) _ (told-after part memory whole samples) y answer taken
+
+  pub answer-in-time : TellsInTime part memory samples y answer
+  answer-in-time = tells-by part memory whole samples y answer answered
 
 -- And no rise sooner: each time a trace of part 255 shows it.
 too-few : (standard fwft : ℕ) (earlier later : List ℕ) → watched earlier later .accepted ≡ true → watched earlier later .calm ≡ true
@@ -146,13 +147,13 @@ module _ (part : Part) (memory : List ℕ) (whole : length memory ≡ depthOf pa
       rw (e, led-parts part earlier (x ∷ later) (powerUp memory)) (in-time part memory whole earlier x later w)
 
   module _ (samples : List ℕ) (lenient : Bool) (bytes answers marks : List ℕ) where
+    abbrev start : Moment
+    start = led part (powerUp memory) samples
+
     abbrev run : Ended
-    run = runFrom part (led part (powerUp memory) samples) lenient bytes answers marks
+    run = runFrom part start lenient bytes answers marks
 
     module _ (r : Ran) (left written : List ℕ) (result : r ≡ ranOf run) (words : left ≡ run .progress .memory) (room : written ≡ run .progress .answers) where
-      abbrev start : Moment
-      start = led part (powerUp memory) samples
-
       abbrev worked : List ℕ
       worked = samples ++ workedOn (r .index) bytes
 
@@ -177,25 +178,21 @@ module _ (part : Part) (memory : List ℕ) (whole : length memory ≡ depthOf pa
       run-ends-in-time earlier x later e w =
           subst (λ (m : Moment). Ready part (m .notes .fwft) (m .state)) (sym run-leads) (in-time-through worked earlier x later e w)
 
-      -- and, for each record before its end that is taken, what it wrote is that sample's answer,
-      pub run-answered : (i : ℕ) → i < r .index → let m = led part (powerUp memory) (samples ++ workedOn i bytes) in let y = workedAt i bytes in
-          takes part m y ≡ true → Answers part (pinsOf y) (next part m y .state) (answerAt i written)
-      run-answered i past taken =
-          let parts = led-parts part samples (workedOn i bytes) (powerUp memory) in
-          rw (room, parts)
-          (run-answers part start _ (told-after part memory whole samples) lenient bytes answers marks i (subst (λ (q : Ran). i < q .index) result past)
-          (subst (λ (m : Moment). takes part m (workedAt i bytes) ≡ true) parts taken))
+      -- and for each record before its end that is taken, what it wrote is that sample's answer, which tells in time
+      module _ (i : ℕ) (past : i < r .index) where
+        abbrev before : List ℕ
+        before = samples ++ workedOn i bytes
 
-      -- which tells in time that a word is ready
-      pub run-in-time : (i : ℕ) → i < r .index → (earlier : List ℕ) (x : ℕ) (later : List ℕ) → samples ++ workedOn i bytes ≡ earlier ++ (x ∷ later)
-          → let m = led part (powerUp memory) (earlier ++ (x ∷ later)) in let y = workedAt i bytes in
-          takes part m y ≡ true → Waiting 3 4 part (led part (powerUp memory) earlier) x (later ++ (y ∷ []))
-          → tellsReady (next part m y .notes .fwft) (bit 22 (answerAt i written)) ≡ true
-      run-in-time i past earlier x later e taken =
-          let y = workedAt i bytes in
-          tells-by part memory whole earlier x later y (answerAt i written)
-          (subst (λ (l : List ℕ). let m = led part (powerUp memory) l in takes part m y ≡ true → Answers part (pinsOf y) (next part m y .state) (answerAt i written))
-          e (run-answered i past) taken)
+        module _ (taken : takes part (led part (powerUp memory) before) (workedAt i bytes) ≡ true) where
+          pub run-answered : Answers part (pinsOf (workedAt i bytes)) (next part (led part (powerUp memory) before) (workedAt i bytes) .state) (answerAt i written)
+          run-answered =
+              let parts = led-parts part samples (workedOn i bytes) (powerUp memory) in
+              rw (room, parts)
+              (run-answers part start _ (told-after part memory whole samples) lenient bytes answers marks i (subst (λ (q : Ran). i < q .index) result past)
+              (subst (λ (m : Moment). takes part m (workedAt i bytes) ≡ true) parts taken))
+
+          pub run-in-time : TellsInTime part memory before (workedAt i bytes) (answerAt i written)
+          run-in-time = tells-by part memory whole before (workedAt i bytes) (answerAt i written) run-answered
 
 -- Calls from C on buffers that `fifo_power_up` has set up: state and memory spell the moment that the calls' records lead to, where
 -- the same is true; the room of a call that is taken holds the answer of its sample; and no call is refused 3.
@@ -219,11 +216,13 @@ module _ (part : Part) (state memory : List ℕ) (room : length state ≡ stateB
       → Waiting 3 4 part (led part (powerUp (wordsIn memory)) earlier) x later → Ready part (there .notes .fwft) (there .state)
   call-in-time = in-time-through part (wordsIn memory) (words-deep part memory whole) (samplesOf calls)
 
-  pub call-answered : (a : Asked) → isSample a ≡ true → callOf part buffers a .code ≡ 0
-      → let x = wordAt (a .bytes) 0 in Answers part (pinsOf x) (next part there x .state) (answerAt 0 (callOf part buffers a .answer))
-  call-answered a is =
-      call-answers part buffers a there calls-spell is _
-      (told-after part (wordsIn memory) (words-deep part memory whole) (samplesOf calls))
+  module _ (a : Asked) (is : isSample a ≡ true) (taken : callOf part buffers a .code ≡ 0) where
+    pub call-answered : let y = wordAt (a .bytes) 0 in Answers part (pinsOf y) (next part there y .state) (answerAt 0 (callOf part buffers a .answer))
+    call-answered =
+        call-answers part buffers a there calls-spell is _ (told-after part (wordsIn memory) (words-deep part memory whole) (samplesOf calls)) taken
+
+    pub call-answer-in-time : TellsInTime part (wordsIn memory) (samplesOf calls) (wordAt (a .bytes) 0) (answerAt 0 (callOf part buffers a .answer))
+    call-answer-in-time = tells-by part (wordsIn memory) (words-deep part memory whole) (samplesOf calls) (wordAt (a .bytes) 0) _ call-answered
 
   pub call-never-three : (a : Asked) → callOf part buffers a .code ≢ 3
   call-never-three a = call-not-three part buffers a there calls-spell (call-kept .passesTest)
