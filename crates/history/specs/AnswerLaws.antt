@@ -1,5 +1,5 @@
 -- What a caller is answered is what the onlooker sees.
-use Prim.Native.Nat.{ℕ, _/_, _%_, _^_, _≤_, _<_}
+use Prim.Native.Nat.{ℕ, _+_, _*_, _/_, _%_, _^_, _<_}
 use mathlib.Core.Bool.{Bool, true, false, cond}
 use mathlib.Core.List.{List}
 use mathlib.Core.Path.{_≡_, refl, sym, ap, subst, _∙_}
@@ -10,7 +10,7 @@ use borrow.Author.Tests.{eqb-false}
 use native.Mathlib.Omega.{arith}
 use Rattle.chip.specs.declared.state.State.{State}
 use Rattle.chip.specs.Advance.{advanced}
-use Rattle.chip.specs.Answer.{answerOf, linesOf}
+use Rattle.chip.specs.Answer.{answerOf}
 use Rattle.chip.specs.Laws.{flags-given, shown-given}
 use Rattle.chip.specs.ReachLaws.{reached-passes}
 use Rattle.chip.specs.State.{widths}
@@ -24,7 +24,7 @@ use Rattle.pins.specs.Record.{pinsOf}
 use Rattle.views.specs.TrueCounts.{TrueCounts}
 use Rattle.history.specs.LedLaws.{countsNext, sample-steps, told-next}
 use Rattle.history.specs.Told.{Told}
-use Rattle.history.specs.Trace.{Answers, Moment, answerIn, next, outcome, shownBy}
+use Rattle.history.specs.Trace.{Answers, Moment, answerAt, next, outcome, shownBy}
 
 answers-by : (part : Part) (p : Pins) (s : State) → widths part s ≡ true → Answers part p s (answerOf part p s)
 unfolding shownBy
@@ -60,19 +60,36 @@ module _ (part : Part) (m : Moment) (t : TrueCounts) (g : Told part m t) (x : �
       let own : answerOf part (pinsOf x) (next part m x .state) ≡ answer = cc in
       subst (Answers part (pinsOf x) (next part m x .state)) own answers-next
 
--- the answer that is put into a room is found in it
-pub answer-put : (room : List ℕ) (answer : ℕ) → 3 ≤ length room → answer < 2 ^ 24 → answerIn (putAnswer room 0 answer) ≡ answer
-unfolding putAnswer answerIn
-answer-put room answer whole h =
-    let one = set room 0 (answer / 2 ^ 16 % 2 ^ 8) in
-    let two = set one 1 (answer / 2 ^ 8 % 2 ^ 8) in
-    let three = set two 2 (answer % 2 ^ 8) in
-    let l1 : length one ≡ length room = length-set room 0 _ in
-    let l2 : length two ≡ length room = length-set one 1 _ ∙ l1 in
-    let first : getD three 0 0 ≡ answer / 2 ^ 16 % 2 ^ 8
-    = getD-set-other two 2 0 _ 0 (λ e. absurd (omega arith)) ∙ getD-set-other one 1 0 _ 0 (λ e. absurd (omega arith))
-    ∙ getD-set-same room 0 _ 0 (omega arith) in
-    let second : getD three 1 0 ≡ answer / 2 ^ 8 % 2 ^ 8
-    = getD-set-other two 2 1 _ 0 (λ e. absurd (omega arith)) ∙ getD-set-same one 1 _ 0 (omega arith) in
-    let third : getD three 2 0 ≡ answer % 2 ^ 8 = getD-set-same two 2 _ 0 (omega arith) in
+pub put-length : (room : List ℕ) (index answer : ℕ) → length (putAnswer room index answer) ≡ length room
+unfolding putAnswer
+put-length room index answer = simp length-set
+
+-- the answer that is put into a room is found in it,
+pub answer-put : (room : List ℕ) (index answer : ℕ) → index * 3 + 2 < length room → answer < 2 ^ 24 → answerAt index (putAnswer room index answer) ≡ answer
+unfolding putAnswer answerAt
+answer-put room index answer within h =
+    let place = index * 3 in
+    let one = set room place (answer / 2 ^ 16 % 2 ^ 8) in
+    let two = set one (place + 1) (answer / 2 ^ 8 % 2 ^ 8) in
+    let three = set two (place + 2) (answer % 2 ^ 8) in
+    let l1 : length one ≡ length room = length-set room place _ in
+    let l2 : length two ≡ length room = length-set one (place + 1) _ ∙ l1 in
+    let first : getD three place 0 ≡ answer / 2 ^ 16 % 2 ^ 8
+    = getD-set-other two (place + 2) place _ 0 (λ e. absurd (omega arith)) ∙ getD-set-other one (place + 1) place _ 0 (λ e. absurd (omega arith))
+    ∙ getD-set-same room place _ 0 (omega arith) in
+    let second : getD three (place + 1) 0 ≡ answer / 2 ^ 8 % 2 ^ 8
+    = getD-set-other two (place + 2) (place + 1) _ 0 (λ e. absurd (omega arith)) ∙ getD-set-same one (place + 1) _ 0 (omega arith) in
+    let third : getD three (place + 2) 0 ≡ answer % 2 ^ 8 = getD-set-same two (place + 2) _ 0 (omega arith) in
     rw (first, second, third) (omega arith)
+
+-- and those of earlier records stay
+pub answer-kept : (room : List ℕ) (index earlier answer : ℕ) → earlier < index → answerAt earlier (putAnswer room index answer) ≡ answerAt earlier room
+unfolding putAnswer answerAt
+answer-kept room index earlier answer before =
+    let place = index * 3 in
+    let one = set room place (answer / 2 ^ 16 % 2 ^ 8) in
+    let two = set one (place + 1) (answer / 2 ^ 8 % 2 ^ 8) in
+    let far : (i : ℕ) → i < place → getD (set two (place + 2) (answer % 2 ^ 8)) i 0 ≡ getD room i 0
+    = λ i l. getD-set-other two (place + 2) i _ 0 (λ e. absurd (omega arith)) ∙ getD-set-other one (place + 1) i _ 0 (λ e. absurd (omega arith))
+    ∙ getD-set-other room place i _ 0 (λ e. absurd (omega arith)) in
+    rw (far (earlier * 3) (omega arith), far (earlier * 3 + 1) (omega arith), far (earlier * 3 + 2) (omega arith))

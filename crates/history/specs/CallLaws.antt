@@ -40,7 +40,7 @@ use Rattle.history.specs.AnswerLaws.{answer-put, answers-next, taken-ans
 use Rattle.history.specs.Calls.{Asked, Buffers, callAll, callOf, callOn, isSample, poweredOn, samplesOf}
 use Rattle.history.specs.LedLaws.{not-three}
 use Rattle.history.specs.Told.{Told}
-use Rattle.history.specs.Trace.{Answers, Moment, answerIn, led, next, outcome, powerUp}
+use Rattle.history.specs.Trace.{Answers, Moment, answerAt, led, next, outcome, powerUp}
 
 stored-length : (store : Store) (memory : List ℕ) → length (storedIn store memory) ≡ length memory
 stored-length Keep memory = refl
@@ -104,7 +104,7 @@ module _ (part : Part) where
 
       -- the answer found in the room of a call that is taken
       pub call-answers : (t : TrueCounts) → Told part m t → callOf part b a .code ≡ 0
-          → let x = wordAt (a .bytes) 0 in Answers part (pinsOf x) (next part m x .state) (answerIn (callOf part b a .answer))
+          → let x = wordAt (a .bytes) 0 in Answers part (pinsOf x) (next part m x .state) (answerAt 0 (callOf part b a .answer))
       call-answers t told z =
           let x = wordAt (a .bytes) 0 in
           let answer = answerOf part (pinsOf x) (next part m x .state) in
@@ -112,7 +112,7 @@ module _ (part : Part) where
           let three : length (a .room) ≡ answerBytes = eqb-true _ _ (both .1) in
           let put : callOf part b a .answer ≡ putAnswer (a .room) 0 answer = as-outcome .room
           ∙ ap (λ (found : Outcome). answersAfter found 0 (a .room)) (taken-answer part m t told x (sym (as-outcome .number) ∙ z)) in
-          let same = ap answerIn put ∙ answer-put (a .room) answer (omega arith) (answer-whole part (pinsOf x) (next part m x .state)) in
+          let same = ap (answerAt 0) put ∙ answer-put (a .room) 0 answer (omega arith) (answer-whole part (pinsOf x) (next part m x .state)) in
           subst (Answers part (pinsOf x) (next part m x .state)) (sym same) (answers-next part m t told x)
 
       spells-next : Spells part (callOn part b a) (next part m (wordAt (a .bytes) 0))

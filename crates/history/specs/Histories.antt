@@ -4,7 +4,7 @@
 -- power-up, and any samples, of which refused ones are skipped. The words accepted and delivered, the rises of RCLK and the
 -- flag are those that an onlooker tells from pins, flags and output register: Onlooker.antt. Trace.antt says how samples and
 -- runs lead from moment to moment, Calls.antt how calls from C do.
-use Prim.Native.Nat.{ℕ, _≤_}
+use Prim.Native.Nat.{ℕ, _≤_, _<_}
 use mathlib.Core.Bool.{Bool, true, false, cond, true≢false}
 use mathlib.Core.List.{List, [], _∷_, _++_}
 use mathlib.Core.Logic.{_≢_}
@@ -27,17 +27,17 @@ use Rattle.fifo_c.specs.Call.{memoryBytes}
 use Rattle.fifo_c.specs.Spelling.{spelt, stateBytes}
 use Rattle.pins.specs.Record.{bit, pinsOf}
 use Rattle.pins.specs.Trace.{wordAt}
-use Rattle.views.specs.TrueCounts.{noCounts}
 use Rattle.history.specs.AnswerLaws.{answers-taken}
 use Rattle.history.specs.CallLaws.{Spells, call-answers, call-not-three, calls-lead, powered-spells, words-deep}
 use Rattle.history.specs.Calls.{Asked, Buffers, callAll, callOf, isSample, poweredOn, samplesOf}
 use Rattle.history.specs.KeptLaws.{depth-at-most, first-delivered, remainder-in-memory}
-use Rattle.history.specs.LedLaws.{outcome-not-three, told-led, told-power-up}
+use Rattle.history.specs.LedLaws.{outcome-not-three, told-after}
 use Rattle.history.specs.Onlooker.{ready, tellsReady}
+use Rattle.history.specs.RunAnswerLaws.{run-answers}
 use Rattle.history.specs.RunLaws.{led-parts, run-led, run-not-three}
 use Rattle.history.specs.Tight.{fwftReset, late-fwft, late-standard, risenThrice, risenTwice, standardReset, watched, wordWritten, zeros}
 use Rattle.history.specs.TimeLaws.{due-shown}
-use Rattle.history.specs.Trace.{Answers, Moment, acceptsWord, answerIn, at, led, next, outcome, powerUp, rclkRisesIn, runFrom, shownBy, undisturbed, wordsFrom, workedOn}
+use Rattle.history.specs.Trace.{Answers, Moment, acceptsWord, answerAt, at, led, next, outcome, powerUp, rclkRisesIn, runFrom, shownBy, takes, undisturbed, wordsFrom, workedAt, workedOn}
 
 -- What is true at a moment.
 pub record Kept (part : Part) (m : Moment) : Type 0 where
@@ -74,7 +74,7 @@ InTime standard fwft =
 -- Single samples.
 pub kept : (part : Part) (memory : List ℕ) → length memory ≡ depthOf part → (samples : List ℕ) → Kept part (led part (powerUp memory) samples)
 kept part memory whole samples =
-    let told = told-led part samples (powerUp memory) noCounts (told-power-up part memory whole) in
+    let told = told-after part memory whole samples in
     record {
       sameWords = first-delivered part _ _ told;
       remainder = remainder-in-memory part _ _ told;
@@ -86,28 +86,35 @@ kept part memory whole samples =
 -- The third rise of RCLK in Standard, the fourth in FWFT.
 pub in-time : InTime 3 4
 in-time part memory whole earlier x later w =
-    due-shown part (led part (powerUp memory) earlier) _ x later (told-led part earlier (powerUp memory) noCounts (told-power-up part memory whole))
+    due-shown part (led part (powerUp memory) earlier) _ x later (told-after part memory whole earlier)
     (w .accepted) (w .calm) (w .risen) (w .undelivered)
 
--- What the onlooker sees after a sample that is taken is what its answer gives,
-pub answered : (part : Part) (memory : List ℕ) → length memory ≡ depthOf part → (samples : List ℕ) (x answer : ℕ)
-    → let m = led part (powerUp memory) samples in
-    outcome part m x .sampled .outcome ≡ Taken answer → Answers part (pinsOf x) (next part m x .state) answer
-answered part memory whole samples x =
-    answers-taken part (led part (powerUp memory) samples) _ (told-led part samples (powerUp memory) noCounts (told-power-up part memory whole)) x
+-- The answer to a sample `y` that comes after others tells it: for any word among theirs that still waits after `y`, the bit of
+-- EF and OR shows one ready.
+abbrev pub TellsInTime : Part → List ℕ → List ℕ → ℕ → ℕ → Type 0
+TellsInTime part memory samples y answer =
+    (earlier : List ℕ) (x : ℕ) (later : List ℕ) → samples ≡ earlier ++ (x ∷ later)
+    → Waiting 3 4 part (led part (powerUp memory) earlier) x (later ++ (y ∷ []))
+    → tellsReady (next part (led part (powerUp memory) samples) y .notes .fwft) (bit 22 answer) ≡ true
 
--- and so the bit of EF and OR in the answer of a sample `y`, up to which the word waits, tells in time that one is ready.
-pub answer-in-time : (part : Part) (memory : List ℕ) → length memory ≡ depthOf part → (earlier : List ℕ) (x : ℕ) (later : List ℕ) (y answer : ℕ)
-    → let m = led part (powerUp memory) (earlier ++ (x ∷ later)) in
-    outcome part m y .sampled .outcome ≡ Taken answer → Waiting 3 4 part (led part (powerUp memory) earlier) x (later ++ (y ∷ []))
-    → tellsReady (next part m y .notes .fwft) (bit 22 answer) ≡ true
+tells-by : (part : Part) (memory : List ℕ) → length memory ≡ depthOf part → (samples : List ℕ) (y answer : ℕ)
+    → Answers part (pinsOf y) (next part (led part (powerUp memory) samples) y .state) answer → TellsInTime part memory samples y answer
 unfolding led
-answer-in-time part memory whole earlier x later y answer taken w =
+tells-by part memory whole samples y answer given earlier x later e w =
     let start = led part (powerUp memory) earlier in
-    let there : led part (next part start x) (later ++ (y ∷ [])) ≡ next part (led part (powerUp memory) (earlier ++ (x ∷ later))) y =
-    led-parts part later (y ∷ []) (next part start x) ∙ ap (λ (m : Moment). next part m y) (sym (led-parts part earlier (x ∷ later) (powerUp memory))) in
-    rw (answered part memory whole (earlier ++ (x ∷ later)) y answer taken .ef)
-    (subst (λ (m : Moment). Ready part (m .notes .fwft) (m .state)) there (in-time part memory whole earlier x (later ++ (y ∷ [])) w))
+    let there : led part (next part start x) (later ++ (y ∷ [])) ≡ next part (led part (powerUp memory) samples) y =
+    led-parts part later (y ∷ []) (next part start x)
+    ∙ ap (λ (m : Moment). next part m y) (sym (ap (led part (powerUp memory)) e ∙ led-parts part earlier (x ∷ later) (powerUp memory))) in
+    rw (given .ef) (subst (λ (m : Moment). Ready part (m .notes .fwft) (m .state)) there (in-time part memory whole earlier x (later ++ (y ∷ [])) w))
+
+-- What a taken sample is answered is what the onlooker sees after it, and tells in time.
+module _ (part : Part) (memory : List ℕ) (whole : length memory ≡ depthOf part) (samples : List ℕ) (y answer : ℕ)
+    (taken : outcome part (led part (powerUp memory) samples) y .sampled .outcome ≡ Taken answer) where
+  pub answered : Answers part (pinsOf y) (next part (led part (powerUp memory) samples) y .state) answer
+  answered = answers-taken part (led part (powerUp memory) samples) _ (told-after part memory whole samples) y answer taken
+
+  pub answer-in-time : TellsInTime part memory samples y answer
+  answer-in-time = tells-by part memory whole samples y answer answered
 
 -- And no rise sooner: each time a trace of part 255 shows it.
 too-few : (standard fwft : ℕ) (earlier later : List ℕ) → watched earlier later .accepted ≡ true → watched earlier later .calm ≡ true
@@ -128,23 +135,25 @@ not-at-third =
     let e = late-fwft in
     too-few 3 3 fwftReset risenThrice (rw e refl) (rw e refl) (rw e (omega arith)) (rw e (omega arith)) (rw e refl)
 
--- A run over a trace's bytes, strict or lenient, that goes on from any such moment: `r` and `left` are the result and the memory
--- that `run` and `run_lenient` promise to hand back. The run leads where the records that it worked lead one by one, and so
--- the same is true of it.
+-- A run over a trace's bytes, strict or lenient, that goes on from any such moment: `r`, `left` and `written` are the result, the
+-- memory and the room for answers that `run` and `run_lenient` promise to hand back. The run leads where the records that it
+-- worked lead one by one, and so the same is true of it.
 module _ (part : Part) (memory : List ℕ) (whole : length memory ≡ depthOf part) where
-  -- in time after each of the samples: those that came up to it are `earlier`, `x` and `later`, those after it `rest`
-  in-time-through : (samples earlier : List ℕ) (x : ℕ) (later rest : List ℕ) → samples ≡ (earlier ++ (x ∷ later)) ++ rest
+  in-time-through : (samples earlier : List ℕ) (x : ℕ) (later : List ℕ) → samples ≡ earlier ++ (x ∷ later)
       → Waiting 3 4 part (led part (powerUp memory) earlier) x later
-      → let m = led part (powerUp memory) (earlier ++ (x ∷ later)) in Ready part (m .notes .fwft) (m .state)
+      → let m = led part (powerUp memory) samples in Ready part (m .notes .fwft) (m .state)
   unfolding led
-  in-time-through samples earlier x later rest e w =
-      rw (led-parts part earlier (x ∷ later) (powerUp memory)) (in-time part memory whole earlier x later w)
+  in-time-through samples earlier x later e w =
+      rw (e, led-parts part earlier (x ∷ later) (powerUp memory)) (in-time part memory whole earlier x later w)
 
   module _ (samples : List ℕ) (lenient : Bool) (bytes answers marks : List ℕ) where
-    abbrev run : Ended
-    run = runFrom part (led part (powerUp memory) samples) lenient bytes answers marks
+    abbrev start : Moment
+    start = led part (powerUp memory) samples
 
-    module _ (r : Ran) (left : List ℕ) (result : r ≡ ranOf run) (words : left ≡ run .progress .memory) where
+    abbrev run : Ended
+    run = runFrom part start lenient bytes answers marks
+
+    module _ (r : Ran) (left written : List ℕ) (result : r ≡ ranOf run) (words : left ≡ run .progress .memory) (room : written ≡ run .progress .answers) where
       abbrev worked : List ℕ
       worked = samples ++ workedOn (r .index) bytes
 
@@ -153,24 +162,37 @@ module _ (part : Part) (memory : List ℕ) (whole : length memory ≡ depthOf pa
 
       pub run-leads : end ≡ led part (powerUp memory) worked
       run-leads =
-          let told = told-led part samples (powerUp memory) noCounts (told-power-up part memory whole) in
           rw (led-parts part samples (workedOn (r .index) bytes) (powerUp memory), result, words)
-          (run-led part (led part (powerUp memory) samples) _ told lenient bytes answers marks)
+          (run-led part start _ (told-after part memory whole samples) lenient bytes answers marks)
 
       pub run-kept : Kept part end
       run-kept = subst (Kept part) (sym run-leads) (kept part memory whole worked)
 
       -- it is not itself refused 3
       pub run-never-three : r .refusal ≢ 3
-      run-never-three =
-          let told = told-led part samples (powerUp memory) noCounts (told-power-up part memory whole) in
-          rw result (run-not-three part (led part (powerUp memory) samples) _ told lenient bytes answers marks)
+      run-never-three = rw result (run-not-three part start _ (told-after part memory whole samples) lenient bytes answers marks)
 
-      -- not at the end alone, but after each record that was worked
-      pub run-in-time : (earlier : List ℕ) (x : ℕ) (later rest : List ℕ) → worked ≡ (earlier ++ (x ∷ later)) ++ rest
-          → Waiting 3 4 part (led part (powerUp memory) earlier) x later
-          → let m = led part (powerUp memory) (earlier ++ (x ∷ later)) in Ready part (m .notes .fwft) (m .state)
-      run-in-time = in-time-through worked
+      -- the state that it hands back is in time,
+      pub run-ends-in-time : (earlier : List ℕ) (x : ℕ) (later : List ℕ) → worked ≡ earlier ++ (x ∷ later)
+          → Waiting 3 4 part (led part (powerUp memory) earlier) x later → Ready part (end .notes .fwft) (end .state)
+      run-ends-in-time earlier x later e w =
+          subst (λ (m : Moment). Ready part (m .notes .fwft) (m .state)) (sym run-leads) (in-time-through worked earlier x later e w)
+
+      -- and for each record before its end that is taken, what it wrote is that sample's answer, which tells in time
+      module _ (i : ℕ) (past : i < r .index) where
+        abbrev before : List ℕ
+        before = samples ++ workedOn i bytes
+
+        module _ (taken : takes part (led part (powerUp memory) before) (workedAt i bytes) ≡ true) where
+          pub run-answered : Answers part (pinsOf (workedAt i bytes)) (next part (led part (powerUp memory) before) (workedAt i bytes) .state) (answerAt i written)
+          run-answered =
+              let parts = led-parts part samples (workedOn i bytes) (powerUp memory) in
+              rw (room, parts)
+              (run-answers part start _ (told-after part memory whole samples) lenient bytes answers marks i (subst (λ (q : Ran). i < q .index) result past)
+              (subst (λ (m : Moment). takes part m (workedAt i bytes) ≡ true) parts taken))
+
+          pub run-in-time : TellsInTime part memory before (workedAt i bytes) (answerAt i written)
+          run-in-time = tells-by part memory whole before (workedAt i bytes) (answerAt i written) run-answered
 
 -- Calls from C on buffers that `fifo_power_up` has set up: state and memory spell the moment that the calls' records lead to, where
 -- the same is true; the room of a call that is taken holds the answer of its sample; and no call is refused 3.
@@ -192,16 +214,15 @@ module _ (part : Part) (state memory : List ℕ) (room : length state ≡ stateB
 
   pub call-in-time : (earlier : List ℕ) (x : ℕ) (later : List ℕ) → samplesOf calls ≡ earlier ++ (x ∷ later)
       → Waiting 3 4 part (led part (powerUp (wordsIn memory)) earlier) x later → Ready part (there .notes .fwft) (there .state)
-  unfolding led
-  call-in-time earlier x later e w =
-      rw (e, led-parts part earlier (x ∷ later) (powerUp (wordsIn memory)))
-      (in-time part (wordsIn memory) (words-deep part memory whole) earlier x later w)
+  call-in-time = in-time-through part (wordsIn memory) (words-deep part memory whole) (samplesOf calls)
 
-  pub call-answered : (a : Asked) → isSample a ≡ true → callOf part buffers a .code ≡ 0
-      → let x = wordAt (a .bytes) 0 in Answers part (pinsOf x) (next part there x .state) (answerIn (callOf part buffers a .answer))
-  call-answered a is =
-      call-answers part buffers a there calls-spell is _
-      (told-led part (samplesOf calls) (powerUp (wordsIn memory)) noCounts (told-power-up part (wordsIn memory) (words-deep part memory whole)))
+  module _ (a : Asked) (is : isSample a ≡ true) (taken : callOf part buffers a .code ≡ 0) where
+    pub call-answered : let y = wordAt (a .bytes) 0 in Answers part (pinsOf y) (next part there y .state) (answerAt 0 (callOf part buffers a .answer))
+    call-answered =
+        call-answers part buffers a there calls-spell is _ (told-after part (wordsIn memory) (words-deep part memory whole) (samplesOf calls)) taken
+
+    pub call-answer-in-time : TellsInTime part (wordsIn memory) (samplesOf calls) (wordAt (a .bytes) 0) (answerAt 0 (callOf part buffers a .answer))
+    call-answer-in-time = tells-by part (wordsIn memory) (words-deep part memory whole) (samplesOf calls) (wordAt (a .bytes) 0) _ call-answered
 
   pub call-never-three : (a : Asked) → callOf part buffers a .code ≢ 3
   call-never-three a = call-not-three part buffers a there calls-spell (call-kept .passesTest)

@@ -108,7 +108,7 @@ module _ (part : Part) where
   told-led [] m t g = g
   told-led (x ∷ xs) m t g = told-led xs (next part m x) (countsNext m x t) (told-next m t g x)
 
-  pub told-power-up : (memory : List ℕ) → length memory ≡ depthOf part → Told part (powerUp memory) noCounts
+  told-power-up : (memory : List ℕ) → length memory ≡ depthOf part → Told part (powerUp memory) noCounts
   unfolding powerUp poweredUp cleared
   told-power-up memory whole = record {
     reached = power-up-reached part;
@@ -123,3 +123,7 @@ module _ (part : Part) where
       same = refl;
     };
   }
+
+  pub told-after : (memory : List ℕ) → length memory ≡ depthOf part → (samples : List ℕ)
+      → Told part (led part (powerUp memory) samples) (countsLed (powerUp memory) samples noCounts)
+  told-after memory whole samples = told-led samples (powerUp memory) noCounts (told-power-up memory whole)

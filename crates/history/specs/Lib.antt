@@ -10,6 +10,7 @@ pub mod LedLaws
 pub mod AnswerLaws
 pub mod TimeLaws
 pub mod RunLaws
+pub mod RunAnswerLaws
 pub mod Calls
 pub mod CallLaws
 pub mod Tight

@@ -47,17 +47,20 @@ pub record Answers (part : Part) (p : Pins) (s : State) (answer : ℕ) : Type 0 
   pub ef : bit 22 answer ≡ shownBy part s .ef
   pub register : p .oe ≡ false → s .reading .shows ≡ Register → word answer ≡ shownBy part s .register
 
--- an answer in its three bytes, the first of most weight
-unfoldable pub answerIn : List ℕ → ℕ
-answerIn room = getD room 0 0 * 2 ^ 16 + getD room 1 0 * 2 ^ 8 + getD room 2 0
+-- the answer of a record in the room for answers: three bytes, the first of most weight
+unfoldable pub answerAt : ℕ → List ℕ → ℕ
+answerAt index room = getD room (index * 3) 0 * 2 ^ 16 + getD room (index * 3 + 1) 0 * 2 ^ 8 + getD room (index * 3 + 2) 0
 
 abbrev pub isTaken : Outcome → Bool
 isTaken (Taken answer) = true
 isTaken (Refused number) = false
 
--- the records of a trace that a run works before it ends at an index
+-- the records of a trace that a run works before it comes to an index, and the record there
 abbrev pub workedOn : ℕ → List ℕ → List ℕ
 workedOn index bytes = take index (recordsFrom bytes 0 (wholeRecords bytes))
+
+abbrev pub workedAt : ℕ → List ℕ → ℕ
+workedAt index bytes = getD (recordsFrom bytes 0 (wholeRecords bytes)) index 0
 
 module _ (part : Part) where
   -- one sample, as `sample` works it
