@@ -24,14 +24,15 @@ use Rattle.views.specs.TrueCounts.{TrueCounts}
 use Rattle.history.specs.AnswerLaws.{answer-kept, answer-put, answers-next, put-length, taken-answer}
 use Rattle.history.specs.LedLaws.{countsNext, sample-steps, told-next}
 use Rattle.history.specs.Onlooker.{Notes}
+use Rattle.history.specs.RunLaws.{either}
 use Rattle.history.specs.Told.{Told}
 use Rattle.history.specs.Trace.{Answers, Moment, answerAt, at, isTaken, led, movedTo, next, outcome, runFrom, takes, workedAt, workedOn}
 
 -- a run that has come past a record has not stopped at it
 gone-past : (P : Ended → Type 0) (stop : Bool) (number index i : ℕ) (g : Progress) (rest : Ended) → index + i < cond stop (ended number index g) rest .index
     → (index + i < rest .index → P rest) → P (cond stop (ended number index g) rest)
-gone-past P true number index i g rest past f = absurd (omega arith)
-gone-past P false number index i g rest past f = f past
+gone-past P stop number index i g rest past f =
+    either (λ (e : Ended). index + i < e .index → P e) stop (ended number index g) rest (λ stopped on. absurd (omega arith)) f past
 
 answers-length : (found : Outcome) (index : ℕ) (room : List ℕ) → length (answersAfter found index room) ≡ length room
 answers-length (Taken answer) index room = put-length room index answer
@@ -46,13 +47,8 @@ taken-number (Taken answer) e = refl
 taken-number (Refused number) e = absurd (true≢false (sym e))
 
 -- a run's end has the answer of a sample at an index
-abbrev pub Written : Part → Moment → ℕ → ℕ → Ended → Type 0
+abbrev Written : Part → Moment → ℕ → ℕ → Ended → Type 0
 Written part m x index e = Answers part (pinsOf x) (next part m x .state) (answerAt index (e .progress .answers))
-
-keeps-by : (stop : Bool) (number index i : ℕ) (g : Progress) (rest : Ended) → answerAt i (rest .progress .answers) ≡ answerAt i (g .answers)
-    → answerAt i (cond stop (ended number index g) rest .progress .answers) ≡ answerAt i (g .answers)
-keeps-by true number index i g rest e = refl
-keeps-by false number index i g rest e = e
 
 module _ (part : Part) (lenient : Bool) (last : ℕ) where
   -- the answers of the records before an index stay
@@ -62,7 +58,8 @@ module _ (part : Part) (lenient : Bool) (last : ℕ) where
   fold-keeps [] index i g before = refl
   fold-keeps (x ∷ xs) index i g before =
       let a = stepped part x (g .state) (g .memory) in
-      keeps-by (stops lenient (a .sampled .outcome)) (numberOf (a .sampled .outcome)) index i g (folded lenient (stepped part) last xs (index + 1) (noted lenient index a g))
+      either (λ (e : Ended). answerAt i (e .progress .answers) ≡ answerAt i (g .answers)) (stops lenient (a .sampled .outcome))
+      (ended (numberOf (a .sampled .outcome)) index g) (folded lenient (stepped part) last xs (index + 1) (noted lenient index a g)) (λ stopped. refl)
       (fold-keeps xs (index + 1) i (noted lenient index a g) (omega arith) ∙ answer-stays (a .sampled .outcome) index i (g .answers) before)
 
   module _ (m : Moment) (t : TrueCounts) (told : Told part m t) (x : ℕ) (xs : List ℕ) (index accepted : ℕ) (answers marks : List ℕ) where
@@ -108,10 +105,6 @@ module _ (part : Part) (lenient : Bool) (last : ℕ) where
       (subst (λ (n : Moment). Told part n (countsNext part m x t)) same (told-next part m t told x))
       (rw (answers-length (a .sampled .outcome) index (g .answers)) (omega arith)) (rw (further) at on)) taken))
 
-by-room : (P : Ended → Type 0) (test : Bool) (whole refused : Ended) → (test ≡ true → P whole) → P refused → P (cond test whole refused)
-by-room P true whole refused f g = f refl
-by-room P false whole refused f g = g
-
 module _ (part : Part) (m : Moment) (t : TrueCounts) (told : Told part m t) (lenient : Bool) (bytes answers marks : List ℕ) (i : ℕ) where
   abbrev Shows : Ended → Type 0
   Shows e = i < e .index → takes part (led part m (workedOn i bytes)) (workedAt i bytes) ≡ true → Written part (led part m (workedOn i bytes)) (workedAt i bytes) i e
@@ -122,7 +115,7 @@ module _ (part : Part) (m : Moment) (t : TrueCounts) (told : Told part m t) (len
       let g = started (m .state) (m .memory) answers marks in
       let room = roomy lenient (wholeRecords bytes) (length answers) (length marks) in
       rw (own-number part, reached-passes part (m .state) t (told .reached))
-      (by-room Shows (isDepth part (length (m .memory)) && room) _ (ended 2 0 g)
+      (either Shows (isDepth part (length (m .memory)) && room) _ (ended 2 0 g)
       (λ fits past taken.
       let roomy = and-eq-true-iff (isDepth part (length (m .memory))) room .0 fits .1 in
       let enough = leb-true (wholeRecords bytes * 3) (length answers) (and-eq-true-iff (leb (wholeRecords bytes * 3) (length answers)) _ .0 roomy .0) in

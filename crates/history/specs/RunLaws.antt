@@ -30,9 +30,12 @@ record Follows (part : Part) (m : Moment) (xs : List ℕ) (index : ℕ) (e : End
   state : e .progress .state ≡ led part m (take many xs) .state
   memory : e .progress .memory ≡ led part m (take many xs) .memory
 
-refusal-by : (test : Bool) (a b : Ended) → a .refusal ≢ 3 → b .refusal ≢ 3 → cond test a b .refusal ≢ 3
-refusal-by true a b h k = h
-refusal-by false a b h k = k
+pub either : (P : Ended → Type 0) (test : Bool) (a b : Ended) → (test ≡ true → P a) → P b → P (cond test a b)
+either P true a b f g = f refl
+either P false a b f g = g
+
+abbrev NotThree : Ended → Type 0
+NotThree e = e .refusal ≢ 3
 
 end-not-three : (r : Record) → trace.numberOf r ≢ 3
 end-not-three (Whole word) e = omega arith
@@ -73,36 +76,32 @@ module _ (part : Part) where
       (fold-follows lenient last xs (index + 1) (noted lenient index a g) (movedTo part m x a .notes) (countsNext part m x t)
       (subst (λ (n : Moment). Told part n (countsNext part m x t)) same (told-next part m t told x))))
 
-  start-by : (room : Bool) (g : Progress) (notes : Notes) (xs : List ℕ) (whole : Ended) → Follows part (with-notes g notes) xs 0 whole
-      → Follows part (with-notes g notes) xs 0 (cond room whole (ended 2 0 g))
-  start-by true g notes xs whole f = f
-  start-by false g notes xs whole f = stays g notes xs 2 0
-
   fold-not-three : (lenient : Bool) (last : ℕ) → last ≢ 3 → (xs : List ℕ) (index : ℕ) (g : Progress)
       → folded lenient (stepped part) last xs index g .refusal ≢ 3
   unfolding folded
   fold-not-three lenient last h [] index g = h
   fold-not-three lenient last h (x ∷ xs) index g =
       let a = stepped part x (g .state) (g .memory) in
-      refusal-by (stops lenient (a .sampled .outcome)) (ended (sample.numberOf (a .sampled .outcome)) index g) _
-      (step-not-three part x (g .state) (g .memory)) (fold-not-three lenient last h xs (index + 1) (noted lenient index a g))
+      either NotThree (stops lenient (a .sampled .outcome)) (ended (sample.numberOf (a .sampled .outcome)) index g) _
+      (λ stopped. step-not-three part x (g .state) (g .memory)) (fold-not-three lenient last h xs (index + 1) (noted lenient index a g))
 
   module _ (m : Moment) (t : TrueCounts) (told : Told part m t) (lenient : Bool) (bytes answers marks : List ℕ) where
     run-follows : Follows part m (recordsFrom bytes 0 (wholeRecords bytes)) 0 (runFrom part m lenient bytes answers marks)
     unfolding runOf worked
     run-follows =
+        let g = started (m .state) (m .memory) answers marks in
+        let xs = recordsFrom bytes 0 (wholeRecords bytes) in
         rw (own-number part, reached-passes part (m .state) t (told .reached))
-        (start-by (isDepth part (length (m .memory)) && roomy lenient (wholeRecords bytes) (length answers) (length marks))
-        (started (m .state) (m .memory) answers marks) (m .notes) _ _
-        (fold-follows lenient _ (recordsFrom bytes 0 (wholeRecords bytes)) 0 (started (m .state) (m .memory) answers marks) (m .notes) t told))
+        (either (Follows part m xs 0) (isDepth part (length (m .memory)) && roomy lenient (wholeRecords bytes) (length answers) (length marks)) _ (ended 2 0 g)
+        (λ fits. fold-follows lenient _ xs 0 g (m .notes) t told) (stays g (m .notes) xs 2 0))
 
     pub run-not-three : runFrom part m lenient bytes answers marks .refusal ≢ 3
     unfolding runOf worked
     run-not-three =
         let g = started (m .state) (m .memory) answers marks in
         rw (own-number part, reached-passes part (m .state) t (told .reached))
-        (refusal-by (isDepth part (length (m .memory)) && roomy lenient (wholeRecords bytes) (length answers) (length marks)) _ (ended 2 0 g)
-        (fold-not-three lenient (atEnd bytes) (end-not-three (recordAt bytes (wholeRecords bytes))) (recordsFrom bytes 0 (wholeRecords bytes)) 0 g)
+        (either NotThree (isDepth part (length (m .memory)) && roomy lenient (wholeRecords bytes) (length answers) (length marks)) _ (ended 2 0 g)
+        (λ fits. fold-not-three lenient (atEnd bytes) (end-not-three (recordAt bytes (wholeRecords bytes))) (recordsFrom bytes 0 (wholeRecords bytes)) 0 g)
         (λ e. omega arith))
 
     pub run-led : let run = runFrom part m lenient bytes answers marks in let end = led part m (workedOn (run .index) bytes) in
