@@ -1,4 +1,4 @@
--- The head of a trace.
+-- Bench figures, the trace program: the part number in the first two bytes of its input.
 use Prim.Native.Nat.{ℕ, _+_, _*_}
 use mathlib.Core.Bool.{cond}
 use mathlib.Core.List.{List}

@@ -1,4 +1,4 @@
--- Text, put into a room at a place.
+-- Bench figures, the trace program: the digits of its lines.
 use Prim.Native.Nat.{ℕ, _+_, _/_, _%_}
 use mathlib.Core.Bool.{cond}
 use mathlib.Core.List.{List}
