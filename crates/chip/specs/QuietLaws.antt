@@ -45,6 +45,12 @@ pub past-five : (part : Part) (p : Pins) (s : State) → refusesFive p s ≡ fal
 unfolding refusalOf
 past-five part p s e = simp e (past-by (p .mrs && p .prs) (clockRises p s) (fromSix part p s) (λ f. none-refused part p s (still p s f)))
 
+pub quiet-free : (part : Part) (p : Pins) (s : State) → s .started ≡ true → quiet p s ≡ true → refusalOf part p s ≡ 0
+unfolding quiet
+quiet-free part p s started e =
+    let calm = not-true (clockRises p s) (and-eq-true-iff (p .mrs && p .prs) (not (clockRises p s)) .0 e .1) in
+    simp (past-five part p s (simp started), calm, and-false)
+
 running-held : (part : Part) (p : Pins) (fetched : ℕ) (s : State) → Still p s → running part p fetched s ≡ held p s
 unfolding running held offsetsAfter readingAfter retransmits
 running-held part p fetched s e =

@@ -24,23 +24,13 @@ pub fn advance(part: Part, p: Pins, fetched: u32, s: State) -> Advanced
     requires { ⌜ widths part s ≡ true ⌝ }
     ensures { λ r. ⌜ Advances part p fetched s r ⌝ }
 {
-    if super::quiet::is_quiet(p, s) {
-        let held = super::quiet::hold(p, s);
-        let answer = super::answer::answer(part, p, s);
-        Advanced {
-            state: held,
-            answer: answer,
-            store: Store::Keep,
-        }
-    } else {
-        let state = state_after(part, p, fetched, s);
-        let answer = super::answer::answer(part, p, state);
-        let store = store_of(part, p, s);
-        Advanced {
-            state: state,
-            answer: answer,
-            store: store,
-        }
+    let state = state_after(part, p, fetched, s);
+    let answer = super::answer::answer(part, p, state);
+    let store = store_of(part, p, s);
+    Advanced {
+        state: state,
+        answer: answer,
+        store: store,
     }
 }
 

@@ -7,7 +7,7 @@ use pins::answer::Lines;
 use pins::record::Pins;
 use sides::read::Mode;
 
-pub(crate) fn answer(part: Part, p: Pins, s: State) -> u32
+pub fn answer(part: Part, p: Pins, s: State) -> u32
     ensures { λ r. ⌜ r ≡ answerOf part p s ⌝ }
 {
     let read = s.read;

@@ -10,13 +10,13 @@ pub(crate) fn clock_rises(p: Pins, s: State) -> bool
     sides::clocks::write_rises(p, s.write) | sides::clocks::read_rises(p, s.read)
 }
 
-pub(crate) fn is_quiet(p: Pins, s: State) -> bool
+pub fn is_quiet(p: Pins, s: State) -> bool
     ensures { λ r. ⌜ r ≡ quiet p s ⌝ }
 {
     p.mrs & p.prs & !clock_rises(p, s)
 }
 
-pub(crate) fn hold(p: Pins, s: State) -> State
+pub fn hold(p: Pins, s: State) -> State
     ensures { λ r. ⌜ r ≡ held p s ⌝ }
 {
     let write = s.write;
