@@ -1,6 +1,10 @@
 // One sample over a lent memory.
+ghost use Rattle.chip.specs.Answer.{answerOf};
+ghost use Rattle.chip.specs.Quiet.{held};
 ghost use Rattle.chip.specs.State.{widths};
 ghost use Rattle.fifo.specs.Sample.{Gives, Samples, Steps, RefusesRecord, isDepth, taken};
+ghost use Rattle.fifo.specs.Still.{still};
+ghost use Rattle.pins.specs.Record.{bit};
 ghost use mathlib.Core.Bool.{true};
 ghost use mathlib.Core.Path.{_≡_};
 use chip::state::State;
@@ -42,6 +46,36 @@ pub(crate) fn step(part: Part, record: u32, state: State, memory: &mut [u32]) ->
     requires { ⌜ widths part state ≡ true ⌝ }
     ensures { λ r. ⌜ Steps part «record» state (now (memory .entry)) r (now (memory .exit)) ⌝ }
 {
+    if is_still(record, state) {
+        hold(part, pins::record::decode(record), state)
+    } else {
+        take_or_turn_away(part, record, state, memory)
+    }
+}
+
+// Such a record is never refused and moves only the clocks' levels: neither the refusals nor the memory need be looked at.
+pub fn is_still(record: u32, state: State) -> bool
+    ensures { λ r. ⌜ r ≡ still «record» state ⌝ }
+{
+    let p = pins::record::decode(record);
+    !is_bit_18_set(record) & state.started & chip::quiet::is_quiet(p, state)
+}
+
+fn hold(part: Part, p: Pins, state: State) -> Sampled
+    ensures { λ r. ⌜ r ≡ record { outcome = Outcome.Taken (answerOf part p state); state = held p state } ⌝ }
+{
+    let answer = chip::answer::answer(part, p, state);
+    let held = chip::quiet::hold(p, state);
+    Sampled {
+        outcome: Outcome::Taken(answer),
+        state: held,
+    }
+}
+
+fn take_or_turn_away(part: Part, record: u32, state: State, memory: &mut [u32]) -> Sampled
+    requires { ⌜ widths part state ≡ true ⌝ }
+    ensures { λ r. ⌜ Steps part «record» state (now (memory .entry)) r (now (memory .exit)) ⌝ }
+{
     let number = refuse_record(part, record, state);
     if number == 0 {
         take(part, pins::record::decode(record), state, memory)
@@ -60,12 +94,17 @@ pub(crate) fn is_depth(part: Part, words: usize) -> bool
 pub fn refuse_record(part: Part, record: u32, state: State) -> u8
     ensures { λ r. ⌜ RefusesRecord part «record» state r ⌝ }
 {
-    let spare = (record >> 18) % 2 == 1;
-    if spare {
+    if is_bit_18_set(record) {
         4
     } else {
         chip::refuse::refusal(part, pins::record::decode(record), state)
     }
+}
+
+fn is_bit_18_set(record: u32) -> bool
+    ensures { λ r. ⌜ r ≡ bit 18 «record» ⌝ }
+{
+    (record >> 18) % 2 == 1
 }
 
 fn take(part: Part, p: Pins, state: State, memory: &mut [u32]) -> Sampled

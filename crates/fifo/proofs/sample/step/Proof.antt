@@ -1,26 +1,20 @@
 use denote.Ref.{now}
+use mathlib.Core.Path.{sym, refl, _∙_}
 use borrow.Author.Needs.{needs}
-use Rattle.fifo.proofs.Laws.{gives-by, gives-refusal, stepped-refuses, stepped-takes}
+use Rattle.fifo.specs.StillLaws.{still-stepped}
+use Rattle.fifo.proofs.Laws.{gives-by}
 use Rattle.fifo.proofs.sample.step.Statement.{statement}
 use Rattle.fifo.proofs.sample.step.Tie as tie
 
 returns : tie.Need-returns
 returns c =
-    let decoded = c .before .before .before .before in
-    let number = decoded .before .before in
-    let a = number .before .before .args in
+    let decoded = c .before in
+    let asked = decoded .before .before in
+    let a = asked .before .before .args in
+    let e = sym (asked .is-still .ensures) ∙ decoded .before .if1 .taken in
     gives-by
-    (stepped-takes (a .part) (a .«record») (a .state) (now (a .memory)) (number .refuse-record .ensures) (decoded .decode .ensures)
-    (decoded .before .if1 .taken))
-    (c .before .before .take .ensures)
-
-returns-2 : tie.Need-returns-2
-returns-2 c =
-    let number = c .before .before in
-    let a = number .before .before .args in
-    gives-by
-    (stepped-refuses (a .part) (a .«record») (a .state) (now (a .memory)) (number .refuse-record .ensures) (c .before .if1 .left))
-    (gives-refusal (c .turn-away .ensures))
+    (still-stepped (a .part) (a .«record») (a .state) (now (a .memory)) e)
+    (record { result = simp (c .hold .ensures, decoded .decode .ensures); words = refl })
 
 pub step-spec : {M : Type 1} → statement M
 step-spec =
@@ -30,6 +24,6 @@ step-spec =
     (λ c κs. search needs)
     (λ c κs. search needs)
     (λ c κs. search needs)
-    (λ c. search needs)
     returns
-    returns-2)
+    (λ c. search needs)
+    (λ c. search needs))
