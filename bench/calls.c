@@ -36,9 +36,10 @@ static void measure(struct job *job, struct row cost[MODELS])
 {
     for (int part = 0; part < PARTS; part++) {
         size_t opening = put_trace(job, numbers[part], TRAFFIC_SWEPT, RATIO_RECORDS);
-        compare_answers(job, opening + RATIO_RECORDS);
+        for (int i = 1; i < MODELS; i++)
+            compare_answers(models[0], models[i], job, opening + RATIO_RECORDS);
         for (int i = 0; i < MODELS; i++)
-            cost[i].of[part] = nanoseconds(&models[i], job, opening, RATIO_RECORDS);
+            cost[i].of[part] = nanoseconds(models[i], job, opening, RATIO_RECORDS);
     }
 }
 
@@ -47,7 +48,7 @@ static void print_ratios(const struct row cost[MODELS])
     printf("%d records, memory swept from empty to full and back\n%-28s%9u%9u\n", RATIO_RECORDS, "part", numbers[0],
            numbers[1]);
     for (int i = 0; i < MODELS; i++)
-        print_row(models[i].name, cost[i], "ns a record");
+        print_row(models[i]->name, cost[i], "ns a record");
     print_row("C call / plain C model", ratio(cost[C_CALL], cost[PLAIN_MODEL]), "goal 1.00");
     print_row("run / plain C model", ratio(cost[RUN], cost[PLAIN_MODEL]), "goal 0.50");
     print_row("run / plain C run", ratio(cost[RUN], cost[PLAIN_RUN]), "");
@@ -82,10 +83,10 @@ static void print_tables(struct job *job)
         size_t opening = put_trace(job, numbers[column / FILLS], (enum traffic_fill)(column % FILLS), LONGEST);
         for (int length = 0; length < LENGTHS; length++)
             for (int i = 0; i < TABLES; i++)
-                cells[i][length][column] = nanoseconds(&models[timed[i]], job, opening, lengths[length]);
+                cells[i][length][column] = nanoseconds(models[timed[i]], job, opening, lengths[length]);
     }
     for (int i = 0; i < TABLES; i++)
-        print_table(models[timed[i]].name, cells[i]);
+        print_table(models[timed[i]]->name, cells[i]);
 }
 
 int main(int count, char **arguments)

@@ -11,8 +11,7 @@ struct job {
     uint8_t *trace;
     uint8_t *answers;
     uint32_t *words;
-    uint8_t *memory;
-    uint8_t *state;
+    uint8_t *memory; // as the C call wants it, in bytes
 };
 
 // `work` begins at power-up and gives the number of records taken.
@@ -21,7 +20,11 @@ struct model {
     size_t (*work)(const struct job *job, size_t records);
 };
 
+// These two link without the proved libraries, so that they can be built for any processor.
+extern const struct model by_plain_model;
+extern const struct model by_plain_run;
+
 enum { PLAIN_MODEL, PLAIN_RUN, C_CALL, RUN, MODELS };
-extern const struct model models[MODELS];
+extern const struct model *const models[MODELS];
 
 #endif

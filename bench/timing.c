@@ -1,6 +1,5 @@
 #include "timing.h"
 
-#include "fifo.h"
 #include "plain.h"
 
 #include <stdio.h>
@@ -28,7 +27,6 @@ struct job new_job(size_t records)
         .answers = lend(3 * most),
         .words = lend(4 * DEEPEST),
         .memory = lend(4 * DEEPEST),
-        .state = lend(fifo_state_bytes()),
     };
 }
 
@@ -52,18 +50,16 @@ static void work(const struct model *model, const struct job *job, size_t record
     }
 }
 
-void compare_answers(const struct job *job, size_t records)
+void compare_answers(const struct model *model, const struct model *other, const struct job *job, size_t records)
 {
     uint8_t *expected = lend(3 * records);
-    work(&models[0], job, records);
+    work(model, job, records);
     memcpy(expected, job->answers, 3 * records);
-    for (int i = 1; i < MODELS; i++) {
-        memset(job->answers, 0, 3 * records);
-        work(&models[i], job, records);
-        if (memcmp(expected, job->answers, 3 * records) != 0) {
-            fprintf(stderr, "bench: %s and %s give different answers\n", models[i].name, models[0].name);
-            exit(1);
-        }
+    memset(job->answers, 0, 3 * records);
+    work(other, job, records);
+    if (memcmp(expected, job->answers, 3 * records) != 0) {
+        fprintf(stderr, "bench: %s and %s give different answers\n", model->name, other->name);
+        exit(1);
     }
     free(expected);
 }

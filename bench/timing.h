@@ -11,8 +11,8 @@ struct job new_job(size_t records);
 // The number of records in the opening, before the traffic.
 size_t put_trace(struct job *job, uint32_t number, enum traffic_fill fill, size_t records);
 
-// Ends the program unless all models give the same answers.
-void compare_answers(const struct job *job, size_t records);
+// Ends the program unless both models give the same answers.
+void compare_answers(const struct model *model, const struct model *other, const struct job *job, size_t records);
 
 // For a record of the traffic; the time of the opening is taken off.
 double nanoseconds(const struct model *model, const struct job *job, size_t opening, size_t records);

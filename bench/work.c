@@ -11,8 +11,8 @@ enum { TRAFFIC_RECORDS = 10000 };
 static const struct model *model_named(const char *name)
 {
     for (int i = 0; i < MODELS; i++)
-        if (strcmp(name, models[i].name) == 0)
-            return &models[i];
+        if (strcmp(name, models[i]->name) == 0)
+            return models[i];
     return NULL;
 }
 
