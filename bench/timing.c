@@ -7,7 +7,7 @@
 #include <string.h>
 #include <time.h>
 
-enum { SEED = 1, DEEPEST = 16384, TIMED_RECORDS = 2000000, LEAST_REPEATS = 2 };
+enum { SEED = 1, DEEPEST = 16384, TIMED_RECORDS = 2000000, LEAST_REPEATS = 3, MOST_REPEATS = 200 };
 
 static void *lend(size_t bytes)
 {
@@ -74,12 +74,20 @@ static double seconds_once(const struct model *model, const struct job *job, siz
     return (double)(to.tv_sec - from.tv_sec) + 1e-9 * (double)(to.tv_nsec - from.tv_nsec);
 }
 
+static size_t repeats_for(size_t records)
+{
+    size_t repeats = TIMED_RECORDS / records;
+    if (repeats < LEAST_REPEATS)
+        return LEAST_REPEATS;
+    return repeats < MOST_REPEATS ? repeats : MOST_REPEATS;
+}
+
 // The smallest of several, since whatever else the machine does only adds.
 static double seconds(const struct model *model, const struct job *job, size_t records)
 {
-    size_t repeats = TIMED_RECORDS / (records + 1);
+    size_t repeats = repeats_for(records);
     double smallest = seconds_once(model, job, records);
-    for (size_t i = 1; i < repeats || i < LEAST_REPEATS; i++) {
+    for (size_t i = 1; i < repeats; i++) {
         double next = seconds_once(model, job, records);
         smallest = next < smallest ? next : smallest;
     }
