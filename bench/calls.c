@@ -1,6 +1,7 @@
-// calls [NANOSECONDS-255 NANOSECONDS-265]: times the C call and the run against the plain C model in this one process,
-// prints the ratios, then the cost of a record for traces of many lengths. The arguments say what the Rust reference
-// takes for a record of the same traffic on the same processor.
+// calls [RUST-255 RUST-265 [PLAIN-255 PLAIN-265]]: times the C call and the run against the plain C model in this one
+// process, prints the ratios, then the cost of a record for traces of many lengths. The arguments are nanoseconds that a
+// record of the same traffic takes elsewhere: by the Rust reference, and, where that was built for another processor than
+// this program, by the plain C model built for that processor too.
 #include "timing.h"
 
 #include <stdio.h>
@@ -24,12 +25,27 @@ static struct row ratio(struct row row, struct row other)
     return row;
 }
 
-static void print_row(const char *name, struct row row, const char *goal)
+static struct row product(struct row row, struct row other)
 {
-    printf("%-28s", name);
+    for (int part = 0; part < PARTS; part++)
+        row.of[part] *= other.of[part];
+    return row;
+}
+
+static struct row read_row(char **arguments)
+{
+    struct row row;
+    for (int part = 0; part < PARTS; part++)
+        row.of[part] = strtod(arguments[part], NULL);
+    return row;
+}
+
+static void print_row(const char *name, struct row row, const char *remark)
+{
+    printf("%-32s", name);
     for (int part = 0; part < PARTS; part++)
         printf("%9.2f", row.of[part]);
-    printf("   %s\n", goal);
+    printf("   %s\n", remark);
 }
 
 static void measure(struct job *job, struct row cost[MODELS])
@@ -45,7 +61,7 @@ static void measure(struct job *job, struct row cost[MODELS])
 
 static void print_ratios(const struct row cost[MODELS])
 {
-    printf("%d records, memory swept from empty to full and back\n%-28s%9u%9u\n", RATIO_RECORDS, "part", numbers[0],
+    printf("%d records, memory swept from empty to full and back\n%-32s%9u%9u\n", RATIO_RECORDS, "part", numbers[0],
            numbers[1]);
     for (int i = 0; i < MODELS; i++)
         print_row(models[i]->name, cost[i], "ns a record");
@@ -57,9 +73,21 @@ static void print_ratios(const struct row cost[MODELS])
 static void print_reference_ratios(const struct row cost[MODELS], struct row reference)
 {
     print_row("Rust reference", reference, "ns a record");
-    print_row("plain C model / Rust", ratio(cost[PLAIN_MODEL], reference), "");
+    print_row("plain C model / Rust reference", ratio(cost[PLAIN_MODEL], reference), "");
     print_row("C call / Rust reference", ratio(cost[C_CALL], reference), "");
     print_row("run / Rust reference", ratio(cost[RUN], reference), "");
+}
+
+// `reference` and `plain` are of one processor, `cost` of another.
+static void print_ratios_through_plain(const struct row cost[MODELS], struct row reference, struct row plain)
+{
+    const char *through = "through the plain C model";
+    struct row of_plain = ratio(plain, reference);
+    print_row("Rust reference, native", reference, "ns a record");
+    print_row("plain C model, native", plain, "ns a record");
+    print_row("plain C model / Rust reference", of_plain, "both native");
+    print_row("C call / Rust reference", product(ratio(cost[C_CALL], cost[PLAIN_MODEL]), of_plain), through);
+    print_row("run / Rust reference", product(ratio(cost[RUN], cost[PLAIN_MODEL]), of_plain), through);
 }
 
 static void print_table(const char *name, double cells[LENGTHS][COLUMNS])
@@ -96,7 +124,9 @@ int main(int count, char **arguments)
     measure(&job, cost);
     print_ratios(cost);
     if (count == 1 + PARTS)
-        print_reference_ratios(cost, (struct row){{strtod(arguments[1], NULL), strtod(arguments[2], NULL)}});
+        print_reference_ratios(cost, read_row(arguments + 1));
+    if (count == 1 + 2 * PARTS)
+        print_ratios_through_plain(cost, read_row(arguments + 1), read_row(arguments + 1 + PARTS));
     print_tables(&job);
     return 0;
 }

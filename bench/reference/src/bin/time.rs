@@ -6,6 +6,7 @@ use std::process::ExitCode;
 use reference::model::{Model, Outcome};
 use reference::part::Part;
 
+/// As many as the other contestants get for a long trace.
 const REPEATS: usize = 3;
 
 /// What `clock` counts in a second, by POSIX.
@@ -36,6 +37,6 @@ fn main() -> ExitCode {
         return ExitCode::FAILURE;
     };
     let smallest = (0..REPEATS).map(|_| seconds(part, &records)).fold(f64::INFINITY, f64::min);
-    println!("{:.1}", 1e9 * smallest / records.len() as f64);
+    println!("{:.2}", 1e9 * smallest / records.len() as f64);
     ExitCode::SUCCESS
 }
