@@ -7,7 +7,7 @@
 #include <string.h>
 #include <time.h>
 
-enum { SEED = 1, DEEPEST = 16384, TIMED_RECORDS = 2000000, LEAST_REPEATS = 3, MOST_REPEATS = 200 };
+enum { DEEPEST = 16384, TIMED_RECORDS = 2000000, LEAST_REPEATS = 3, MOST_REPEATS = 200 };
 
 static void *lend(size_t bytes)
 {
@@ -34,7 +34,7 @@ size_t put_trace(struct job *job, uint32_t number, enum traffic_fill fill, size_
 {
     job->number = number;
     job->depth = plain_part(number)->depth;
-    struct traffic traffic = traffic_start(SEED, job->depth, fill);
+    struct traffic traffic = traffic_start(job->depth, fill);
     size_t opening = traffic_opening_records(&traffic);
     traffic_put_opening(&traffic, job->trace);
     traffic_put(&traffic, job->trace + 4 * opening, records);

@@ -1,5 +1,5 @@
-// Seeded legal traffic for timing: bursts in which each clock keeps its pace and the enables their levels. It is in Standard
-// mode, with LD and RT HIGH throughout.
+// Legal traffic for timing: bursts in which each clock keeps its pace and the enables their levels. It is in Standard mode,
+// with LD and RT HIGH throughout. Its seed is fixed, so that all contestants work the same records.
 #ifndef TRAFFIC_H
 #define TRAFFIC_H
 
@@ -21,7 +21,7 @@ struct traffic {
     uint32_t clocks;
 };
 
-struct traffic traffic_start(uint64_t seed, uint32_t depth, enum traffic_fill fill);
+struct traffic traffic_start(uint32_t depth, enum traffic_fill fill);
 
 // A Master Reset and, for a memory that is to be full, as many writes as it has words.
 size_t traffic_opening_records(const struct traffic *traffic);
