@@ -1,14 +1,13 @@
 -- One law for each way out, over what the functions called gave.
 use Prim.Native.Nat.{ℕ, _+_, _*_, _<_}
-use mathlib.Core.Bool.{Bool, true, false}
+use mathlib.Core.Bool.{Bool, true, false, _&&_}
 use mathlib.Core.List.{List}
 use lib.ListN.{length}
 use mathlib.Core.Path.{_≡_, refl, sym, ap, subst, _∙_}
 use Rattle.chip.specs.declared.state.State.{State}
-use Rattle.fifo_c.specs.declared.spelling.Words.{Words}
-use Rattle.fifo_c.specs.declared.state.Spelt.the-variants.{As, NoState}
-use Rattle.fifo_c.specs.Spelling.{bytesOf, putLowFirst, same, spelling, spelt, stateBytes, stateOf, wordsAt, wordsOf}
-use Rattle.fifo_c.specs.SpellingLaws.{put-over, putWords}
+use Rattle.fifo_c.specs.Marks.{readBefore, shownOffset, writeBefore}
+use Rattle.fifo_c.specs.Spelling.{putClocks, putCounts, putEnums, putLevels, putLowFirst, putPair, putRest, spelling, spells, stateBytes, stateIn}
+use Rattle.fifo_c.specs.SpellingLaws.{Bytes, clocks-put, put-over, written-back}
 use Rattle.chip.specs.Reset.{poweredUp}
 use Rattle.chip.specs.State.{passes, widths}
 use Rattle.chip.specs.Widths.{tested-widths}
@@ -17,54 +16,59 @@ use Rattle.counts.specs.declared.part.Lookup.{Lookup}
 use Rattle.counts.specs.declared.part.Lookup.the-variants.{Known, Unknown}
 use Rattle.counts.specs.declared.part.Part.{Part}
 use Rattle.counts.specs.Part.{partOf}
-use Rattle.fifo_c.specs.declared.state.Spelt.{Spelt}
 use Rattle.fifo_c.specs.declared.verdict.Verdict.{Verdict}
-use Rattle.fifo_c.specs.declared.verdict.Verdict.the-variants.{Take, Refuse}
-use Rattle.fifo_c.specs.Call.{judged, onRecord, onSpelt, roomy}
+use Rattle.fifo_c.specs.declared.verdict.Verdict.the-variants.{Work, Refuse}
+use Rattle.fifo_c.specs.Call.{judged, onRecord, onState, roomy}
 use Rattle.chip.specs.declared.advance.Advanced.{Advanced}
 use Rattle.chip.specs.Advance.{advanced, storeOf}
+use Rattle.chip.specs.Answer.{answerOf}
+use Rattle.chip.specs.Quiet.{held}
+use Rattle.chip.specs.QuietLaws.{quiet-advanced}
 use Rattle.chip.specs.Laws.{store-placed}
 use Rattle.counts.specs.Part.{depthOf}
 use Rattle.counts.specs.Round.{placeOf}
 use Rattle.fifo.specs.Run.{putAnswer}
+use Rattle.fifo.specs.Sample.{recordRefusal}
+use Rattle.fifo.specs.Still.{still}
+use Rattle.fifo.specs.StillLaws.{still-free, still-quiet}
 use Rattle.pins.specs.declared.record.Pins.{Pins}
 use Rattle.pins.specs.Record.{pinsOf}
 use Rattle.pins.specs.Trace.{wordAt}
-use Rattle.fifo_c.specs.Call.{Called, Calls, PowersUp, Takes, Within, answerBytes, byVerdict, called, memoryFor, powered, memoryBytes, numberOf, storedIn, taken, took, wordSize}
-use Rattle.fifo_c.specs.CallLaws.{cleared, roomy-lengths, store-within}
+use Rattle.fifo_c.specs.Call.{Called, Calls, Gives, PowersUp, Ready, Within, byVerdict, called, memoryFor, powered, memoryBytes, numberOf, storedIn, taken, took, turnedAway, wordSize, worked}
+use Rattle.fifo_c.specs.CallLaws.{cleared, store-within}
 use native.Mathlib.Omega.{arith}
 use Rattle.chip.specs.declared.advance.Store.{Store}
 use Rattle.chip.specs.declared.advance.Store.the-variants.{Put}
 use borrow.Author.Needs.{needs}
 
-module _ (bytes : List ℕ) {w v : Words} {s : State} {b : Bool} (read : w ≡ wordsAt bytes) (made : s ≡ stateOf w) (own : v ≡ wordsOf s) (told : b ≡ same v w) where
-  pub read-spelling : b ≡ true → As s ≡ spelt bytes
-  unfolding spelt
-  read-spelling holds = rw (← read, ← made, ← own, ← told, holds) refl
+module _ (s : State) (bytes : List ℕ) {first second third fourth : List ℕ} where
+  pub counts-put : {read write : ℕ} → read ≡ readBefore (s .write .latest) → write ≡ writeBefore (s .read .latest)
+      → first ≡ putPair bytes 16 (s .write .count .0) (s .write .first .0) → second ≡ putPair first 20 (s .write .second .0) read
+      → third ≡ putPair second 24 (s .read .count .0) (s .read .first .0) → fourth ≡ putPair third 28 (s .read .second .0) write → fourth ≡ putCounts s bytes
+  unfolding putCounts
+  counts-put a b e f g h = h ∙ rw (g, f, e, a, b) refl
 
-  pub read-none : b ≡ false → NoState ≡ spelt bytes
-  unfolding spelt
-  read-none fails = rw (← read, ← made, ← own, ← told, fails) refl
+  pub rest-put : {shown : ℕ} → shown ≡ shownOffset (s .reading .shows) → first ≡ putPair bytes 32 (s .offsets .n) (s .offsets .m)
+      → second ≡ putLowFirst first 36 (s .offsets .serial) → third ≡ putPair second 40 shown 0 → fourth ≡ putLowFirst third 44 (s .read .output)
+      → fourth ≡ putRest s bytes
+  unfolding putRest
+  rest-put a e f g h = h ∙ rw (g, f, e, a) refl
 
--- `b1` to `b9`: the bytes after each word put
-pub written : (s : State) (b : List ℕ) {w : Words} {b1 b2 b3 b4 b5 b6 b7 b8 b9 : List ℕ} → w ≡ wordsOf s → length b ≡ stateBytes
-    → b1 ≡ putLowFirst b 0 (w .marks) → b2 ≡ putLowFirst b1 4 (w .write) → b3 ≡ putLowFirst b2 8 (w .«write_second») → b4 ≡ putLowFirst b3 12 (w .read)
-    → b5 ≡ putLowFirst b4 16 (w .«read_second») → b6 ≡ putLowFirst b5 20 (w .offsets) → b7 ≡ putLowFirst b6 24 (w .serial) → b8 ≡ putLowFirst b7 28 (w .shown)
-    → b9 ≡ putLowFirst b8 32 (w .output) → b9 ≡ spelling s
-unfolding putWords
-written s b {w = w} made room e1 e2 e3 e4 e5 e6 e7 e8 e9 =
-    e9 ∙ rw (e8, e7, e6, e5, e4, e3, e2, e1) (put-over w b room) ∙ ap bytesOf made
+  pub written : length bytes ≡ stateBytes → first ≡ putLevels s bytes → second ≡ putEnums s first → third ≡ putCounts s second → fourth ≡ putRest s third
+      → fourth ≡ spelling s
+  written room e f g h = h ∙ rw (g, f, e) (put-over s bytes room)
 
-module _ (part : Part) (bytes : List ℕ) (read : Spelt) {found : Spelt} (e : found ≡ read) where
-  pub spells-none : found ≡ NoState → Refuse 3 ≡ onSpelt part bytes read
-  spells-none none = rw (← e, none) refl
+module _ (part : Part) (bytes state : List ℕ) {s : State} {spelled passed : Bool} (e : spelled ≡ spells state) (made : s ≡ stateIn state) (f : passed ≡ passes part s) where
+  as-told : (spelled && passed) ≡ (spells state && passes part (stateIn state))
+  as-told = rw (← e, ← made, ← f) refl
 
-  module _ {s : State} (names : found ≡ As s) {passed : Bool} (f : passed ≡ passes part s) where
-    pub state-fails : passed ≡ false → Refuse 3 ≡ onSpelt part bytes read
-    state-fails fails = rw (← e, names) (rw (← f, fails) refl)
+  pub state-fails : (spelled && passed) ≡ false → Refuse 3 ≡ onState part bytes state
+  unfolding onState
+  state-fails fails = rw (← as-told, fails) refl
 
-    pub state-passes : {v : Verdict} → passed ≡ true → v ≡ onRecord part bytes s → v ≡ onSpelt part bytes read
-    state-passes holds g = g ∙ rw (← e, names) (rw (← f, holds) refl)
+  pub state-passes : {v : Verdict} → (spelled && passed) ≡ true → v ≡ onRecord part bytes → v ≡ onState part bytes state
+  unfolding onState
+  state-passes holds g = g ∙ rw (← as-told, holds) refl
 
 module _ (number : ℕ) (bytes state : List ℕ) (memory answer : ℕ) {looked : Lookup} (e : looked ≡ partOf number) where
   pub judged-unknown : looked ≡ Unknown → Refuse 1 ≡ judged number bytes state memory answer
@@ -76,24 +80,49 @@ module _ (number : ℕ) (bytes state : List ℕ) (memory answer : ℕ) {looked :
     unfolding judged
     judged-length fails = rw (← e, known) (rw (← f, fails) refl)
 
-    pub judged-state : {v : Verdict} → fits ≡ true → v ≡ onSpelt part bytes (spelt state) → v ≡ judged number bytes state memory answer
+    pub judged-state : {v : Verdict} → fits ≡ true → v ≡ onState part bytes state → v ≡ judged number bytes state memory answer
     unfolding judged
     judged-state holds g = g ∙ rw (← e, known) (rw (← f, holds) refl)
 
-module _ (part : Part) (x : ℕ) (s : State) (memory answer : List ℕ) {p : Pins} (decoded : p ≡ pinsOf x) {place word : ℕ}
+module _ (part : Part) (x : ℕ) (state memory answer : List ℕ) {s : State} (read : s ≡ stateIn state) {p : Pins} (decoded : p ≡ pinsOf x) {place word : ℕ}
     (found : place ≡ placeOf (depthOf part) (s .read .count .0)) (fetched : word ≡ wordAt memory (place * wordSize))
     {a : Advanced} (moved : a ≡ advanced part p word s) where
-  as-taken : took a memory answer ≡ taken part x s memory answer
+  as-taken : took a memory answer ≡ taken part x (stateIn state) memory answer
   unfolding taken
-  as-taken = rw (moved, decoded, fetched, found) refl
+  as-taken = rw (moved, decoded, fetched, found, read) refl
 
   pub store-in-memory : length memory ≡ memoryBytes part → Within (a .store) (length memory)
   unfolding advanced
   store-in-memory e = rw moved (store-within part (storeOf part p s) (length memory) e (store-placed part p s))
 
   pub takes : {state′ memory′ answer′ : List ℕ} → state′ ≡ spelling (a .state) → memory′ ≡ storedIn (a .store) memory → answer′ ≡ putAnswer answer 0 (a .answer)
-      → Takes (taken part x s memory answer) state′ memory′ answer′
-  takes e f g = rw (← as-taken) (record { spelled = e; words = f; room = g })
+      → Gives (taken part x (stateIn state) memory answer) 0 state′ memory′ answer′
+  takes e f g = rw (← as-taken) (record { result = refl; spelled = e; words = f; room = g })
+
+module _ (part : Part) (x : ℕ) (state memory answer : List ℕ) {number : ℕ} (e : number ≡ recordRefusal part x (stateIn state)) where
+  pub works-taken : {state′ memory′ answer′ : List ℕ} → number ≡ 0 → Gives (taken part x (stateIn state) memory answer) 0 state′ memory′ answer′
+      → Gives (worked part x state memory answer) number state′ memory′ answer′
+  unfolding worked
+  works-taken free gives = rw (← e, free) gives
+
+  pub works-refused : (number ≡ 0 → ⊥) → Gives (worked part x state memory answer) number state memory answer
+  unfolding worked
+  works-refused refuses = rw (← e, ne-eqb number 0 refuses) (record { result = refl; spelled = refl; words = refl; room = refl })
+
+module _ (part : Part) (x : ℕ) (state memory answer : List ℕ) {told : Bool} (e : told ≡ still x (stateIn state)) where
+  pub works-held : {state′ answer′ : List ℕ} → told ≡ true → state′ ≡ spelling (held (pinsOf x) (stateIn state))
+      → answer′ ≡ putAnswer answer 0 (answerOf part (pinsOf x) (stateIn state)) → Gives (worked part x state memory answer) 0 state′ memory answer′
+  unfolding worked taken
+  works-held holds f g =
+      let calm = sym e ∙ holds in
+      rw (still-free part x (stateIn state) calm, quiet-advanced part (pinsOf x) _ (stateIn state) (still-quiet x (stateIn state) calm))
+      (record { result = refl; spelled = f; words = refl; room = g })
+
+-- only the levels are other bytes than before
+pub clocks-held : (x : ℕ) (state : List ℕ) {p : Pins} {state′ : List ℕ} → length state ≡ stateBytes → Bytes state → spells state ≡ true → p ≡ pinsOf x
+    → state′ ≡ putClocks (p .wclk) (p .rclk) state → state′ ≡ spelling (held (pinsOf x) (stateIn state))
+clocks-held x state {p = p} room small own decoded put =
+    put ∙ ap (putClocks (p .wclk) (p .rclk)) (sym (written-back state room small own)) ∙ rw decoded (clocks-put (pinsOf x) (stateIn state))
 
 pub in-reach : {store : Store} {place word at : ℕ} (memory : List ℕ) → store ≡ Put place word → at ≡ place * wordSize → Within store (length memory)
     → at + 3 < length memory
@@ -105,26 +134,14 @@ module _ (number : ℕ) (bytes state memory answer : List ℕ) {v : Verdict} (e 
   called-as = rw (← e) refl
 
   pub calls-refused : {refusal r : ℕ} → v ≡ Refuse refusal → r ≡ numberOf v → Calls number bytes state memory answer r state memory answer
-  calls-refused refuses told =
-      let g = called-as ∙ ap (λ (w : Verdict). byVerdict w state memory answer) refuses in
-      let h = told ∙ ap numberOf refuses in
-      search needs
+  calls-refused refuses told = rw (called-as, refuses) (record { result = told ∙ ap numberOf refuses; spelled = refl; words = refl; room = refl })
 
-  pub calls-taken : {part : Part} {x : ℕ} {s : State} {state′ memory′ answer′ : List ℕ} → v ≡ Take part x s
-      → Takes (taken part x s memory answer) state′ memory′ answer′ → Calls number bytes state memory answer 0 state′ memory′ answer′
-  unfolding taken
-  calls-taken {state′ = state′} {memory′ = memory′} {answer′ = answer′} takes room =
-      let g = called-as ∙ ap (λ (w : Verdict). byVerdict w state memory answer) takes in
-      let zero : 0 ≡ called number bytes state memory answer .code = sym (ap (λ (c : Called). c .code) g) in
-      let after : Takes (called number bytes state memory answer) state′ memory′ answer′ = rw g room in
-      search needs
+  pub calls-worked : {part : Part} {x r : ℕ} {state′ memory′ answer′ : List ℕ} → v ≡ Work part x
+      → Gives (worked part x state memory answer) r state′ memory′ answer′ → Calls number bytes state memory answer r state′ memory′ answer′
+  calls-worked works gives = rw (called-as, works) gives
 
-  pub take-may : {part : Part} {x : ℕ} {s : State} → v ≡ Take part x s
-      → (widths part s ≡ true) × ((length state ≡ stateBytes) × ((length memory ≡ memoryBytes part) × (length answer ≡ answerBytes)))
-  take-may {part = part} {x = x} {s = s} takes =
-      let c = cleared number bytes state (length memory) (length answer) part x s (sym e ∙ takes) in
-      let room = roomy-lengths part (length state) (length memory) (length answer) (c .room) in
-      (tested-widths part s (c .passed), (room .state, (room .memory, room .answer)))
+  pub work-may : {part : Part} {x : ℕ} → v ≡ Work part x → Ready part state (length memory) (length answer)
+  work-may {part = part} {x = x} works = cleared number bytes state (length memory) (length answer) part x (sym e ∙ works) .ready
 
 module _ (number : ℕ) {looked : Lookup} (e : looked ≡ partOf number) where
   pub memory-known : {part : Part} {r : ℕ} → looked ≡ Known part → r ≡ memoryBytes part → r ≡ memoryFor number

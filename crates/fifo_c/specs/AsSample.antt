@@ -28,20 +28,20 @@ use Rattle.fifo.specs.Sample.{After, fetchedFor, isDepth, recordRefusal, sample
 use Rattle.pins.specs.Record.{pinsOf}
 use Rattle.pins.specs.Trace.{wholeRecords, wordAt}
 use Rattle.pins.specs.TraceLaws.{records-length}
-use Rattle.fifo_c.specs.declared.state.Spelt.the-variants.{As}
 use Rattle.fifo_c.specs.declared.verdict.Verdict.{Verdict}
-use Rattle.fifo_c.specs.declared.verdict.Verdict.the-variants.{Take, Refuse}
+use Rattle.fifo_c.specs.declared.verdict.Verdict.the-variants.{Refuse}
 use Rattle.fifo_c.specs.Bytes.{wordsIn}
 use Rattle.fifo_c.specs.BytesLaws.{word-in, words-put}
-use Rattle.fifo_c.specs.Call.{Called, answerBytes, byVerdict, called, judged, onRecord, roomy, fetchedFrom, memoryBytes, storedIn, taken, wordSize}
-use Rattle.fifo_c.specs.Spelling.{spelling, spelt, stateBytes}
-use Rattle.fifo_c.specs.SpellingLaws.{Bytes, read-back, spelt-counted, written-back}
+use Rattle.fifo_c.specs.Call.{Called, answerBytes, byVerdict, called, judged, onRecord, onState, roomy, fetchedFrom, memoryBytes, storedIn, taken, turnedAway, wordSize, worked}
+use Rattle.fifo_c.specs.Spelling.{spelling, spells, stateBytes, stateIn}
+use Rattle.fifo_c.specs.SpellingLaws.{Bytes, Spelled, counted-in, read-back, spelling-bytes, written-back}
 
 -- the number, the state spelled, the memory's words and the answer room are those of a sample
 pub record AsSample (c : Called) (a : After) (answer : List ℕ) : Type 0 where
   pub number : c .code ≡ sample.numberOf (a .sampled .outcome)
   pub spelled : c .state ≡ spelling (a .sampled .state)
-  pub state : spelt (c .state) ≡ As (a .sampled .state)
+  pub state : Spelled (c .state) (a .sampled .state)
+  pub bytes : Bytes (c .state)
   pub words : wordsIn (c .memory) ≡ a .memory
   pub room : c .answer ≡ answersAfter (a .sampled .outcome) 0 answer
 
@@ -50,38 +50,53 @@ stored-words : (part : Part) (store : Store) (memory : List ℕ) → length memo
 stored-words part Keep memory e placed = refl
 stored-words part (Put place word) memory e placed = words-put memory place (omega arith) word (omega arith)
 
-module _ (state memory answer : List ℕ) (s : State) (e : spelt state ≡ As s) (room : length state ≡ stateBytes) (bytes : Bytes state) where
-  abbrev Same : Verdict → After → Type 0
-  Same v a = AsSample (byVerdict v state memory answer) a answer
+module _ (state memory answer : List ℕ) (own : spells state ≡ true) (room : length state ≡ stateBytes) (small : Bytes state) where
+  abbrev s : State
+  s = stateIn state
 
-  refused-same : (number : ℕ) → Same (Refuse number) (sample.turnedAway number s (wordsIn memory))
-  refused-same number = record { number = refl; spelled = sym (written-back state s e room bytes); state = e; words = refl; room = refl }
+  abbrev Same : Called → After → Type 0
+  Same c a = AsSample c a answer
+
+  refused-same : (number : ℕ) → Same (turnedAway number state memory answer) (sample.turnedAway number s (wordsIn memory))
+  refused-same number = record {
+    number = refl;
+    spelled = sym (written-back state room small own);
+    state = record { own = own; state = refl };
+    bytes = small;
+    words = refl;
+    room = refl;
+  }
 
   module _ (part : Part) (x : ℕ) (passed : passes part s ≡ true) (deep : length memory ≡ memoryBytes part) where
-    fetched-same : fetchedFrom part s memory ≡ fetchedFor part s (wordsIn memory)
+    abbrev fetched : ℕ
+    fetched = fetchedFrom part s memory
+
+    fetched-same : fetched ≡ fetchedFor part s (wordsIn memory)
     fetched-same =
         let below = place-below (placeBits part) (s .read .count .0) in
         sym (word-in memory (placeOf (depthOf part) (s .read .count .0)) (omega arith))
 
-    taken-same : Same (Take part x s) (sample.taken part (pinsOf x) s (wordsIn memory))
+    taken-same : Same (taken part x s memory answer) (sample.taken part (pinsOf x) s (wordsIn memory))
     unfolding taken sample.taken advanced
-    taken-same = rw (← fetched-same) (
+    taken-same =
+        let wide = widths-stay part (pinsOf x) fetched s (tested-widths part s passed) in
+        let counts = counts-stay part (pinsOf x) fetched s (counted-in state small) in
+        rw (← fetched-same) (
         record {
           number = refl;
           spelled = refl;
-          state = read-back part (advanced part (pinsOf x) (fetchedFrom part s memory) s .state)
-              (widths-stay part (pinsOf x) (fetchedFrom part s memory) s (tested-widths part s passed))
-              (counts-stay part (pinsOf x) (fetchedFrom part s memory) s (spelt-counted state s e bytes));
+          state = read-back part (advanced part (pinsOf x) fetched s .state) wide counts;
+          bytes = spelling-bytes part (advanced part (pinsOf x) fetched s .state) wide counts;
           words = stored-words part (storeOf part (pinsOf x) s) memory deep (store-placed part (pinsOf x) s);
           room = refl;
         })
 
-pair-known : (P : Verdict → After → Type 0) (looked : Lookup) (f : Part → Verdict) (g : Part → After) (v : Verdict) (a : After) → ((part : Part) → P (f part) (g part)) → P v a
+pair-known : {A : Type 0} (P : A → After → Type 0) (looked : Lookup) (f : Part → A) (g : Part → After) (v : A) (a : After) → ((part : Part) → P (f part) (g part)) → P v a
     → P (byPart looked f v) (byPart looked g a)
 pair-known P (Known part) f g v a h k = h part
 pair-known P Unknown f g v a h k = k
 
-pair-when : (P : Verdict → After → Type 0) (test : Bool) (v w : Verdict) (a b : After) → (test ≡ true → P v a) → P w b → P (cond test v w) (cond test a b)
+pair-when : {A : Type 0} (P : A → After → Type 0) (test : Bool) (v w : A) (a b : After) → (test ≡ true → P v a) → P w b → P (cond test v w) (cond test a b)
 pair-when P true v w a b h k = h refl
 pair-when P false v w a b h k = k
 
@@ -96,21 +111,24 @@ same-room part state memory answer e f g =
     rw (e, g, records-length memory 0 (wholeRecords memory))
     (simp (and-true) (same-test (eqb (length memory) (memoryBytes part)) (length memory) (memoryBytes part) (wholeRecords memory) (depthOf part) refl (λ h. omega arith) (λ h. omega arith)))
 
-pub call-is-sample : (number : ℕ) (bytes state memory answer : List ℕ) (s : State) → spelt state ≡ As s → length state ≡ stateBytes → Bytes state
+pub call-is-sample : (number : ℕ) (bytes state memory answer : List ℕ) → spells state ≡ true → length state ≡ stateBytes → Bytes state
     → length bytes ≡ wordSize → length memory % wordSize ≡ 0 → length answer ≡ answerBytes
-    → AsSample (called number bytes state memory answer) (sampled number (wordAt bytes 0) s (wordsIn memory)) answer
-unfolding called judged onRecord sampled stepped
-call-is-sample number bytes state memory answer s e room small whole words three =
-    let P = Same state memory answer s e room small in
-    let refused = refused-same state memory answer s e room small in
-    pair-known P (partOf number) _ _ (Refuse 1) _
-    (λ part. rw (same-room part state memory answer room words three, e, eq-eqb (length bytes) wordSize whole)
-    (pair-when P (isDepth part (length (wordsIn memory))) _ (Refuse 2) _ _
-    (λ deep. pair-when P (passes part s) _ (Refuse 3) _ _
-    (λ passed. pair-when P (eqb (recordRefusal part (wordAt bytes 0) s) 0) _ _ _ _
-    (λ free. taken-same state memory answer s e room small part (wordAt bytes 0) passed
+    → AsSample (called number bytes state memory answer) (sampled number (wordAt bytes 0) (stateIn state) (wordsIn memory)) answer
+unfolding called judged onState onRecord worked sampled stepped
+call-is-sample number bytes state memory answer own room small whole words three =
+    let s = stateIn state in
+    let x = wordAt bytes 0 in
+    let P : Called → After → Type 0 = λ c a. AsSample c a answer in
+    let Q : Verdict → After → Type 0 = λ v a. P (byVerdict v state memory answer) a in
+    let refused = refused-same state memory answer own room small in
+    pair-known Q (partOf number) _ _ (Refuse 1) _
+    (λ part. rw (same-room part state memory answer room words three, own, eq-eqb (length bytes) wordSize whole)
+    (pair-when Q (isDepth part (length (wordsIn memory))) _ (Refuse 2) _ _
+    (λ deep. pair-when Q (passes part s) _ (Refuse 3) _ _
+    (λ passed. pair-when P (eqb (recordRefusal part x s) 0) _ _ _ _
+    (λ free. taken-same state memory answer own room small part x passed
     (let d = eqb-true (length (wordsIn memory)) (depthOf part) deep in let l = records-length memory 0 (wholeRecords memory) in omega arith))
-    (refused (recordRefusal part (wordAt bytes 0) s)))
+    (refused (recordRefusal part x s)))
     (refused 3))
     (refused 2)))
     (refused 1)

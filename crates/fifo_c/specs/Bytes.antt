@@ -10,9 +10,11 @@ byteOf place word = word / 2 ^ place % 2 ^ 8
 abbrev pub lowByte : ℕ → ℕ
 lowByte word = word % 2 ^ 8
 
+unfoldable pub putFour : List ℕ → ℕ → ℕ → ℕ → ℕ → ℕ → List ℕ
+putFour bytes at first second third fourth = set (set (set (set bytes at first) (at + 1) second) (at + 2) third) (at + 3) fourth
+
 unfoldable pub putWord : List ℕ → ℕ → ℕ → List ℕ
-putWord bytes at word =
-    set (set (set (set bytes at (byteOf 24 word)) (at + 1) (byteOf 16 word)) (at + 2) (byteOf 8 word)) (at + 3) (lowByte word)
+putWord bytes at word = putFour bytes at (byteOf 24 word) (byteOf 16 word) (byteOf 8 word) (lowByte word)
 
 -- the words of a memory that is handed in as bytes
 abbrev pub wordsIn : List ℕ → List ℕ

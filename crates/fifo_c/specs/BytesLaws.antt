@@ -8,7 +8,7 @@ use lib.Seq.{getD-set-other, getD-set-same}
 use native.Mathlib.Nat.{add-zero, mod-eq-of-lt, zero-add}
 use native.Mathlib.Omega.{arith}
 use Rattle.pins.specs.Trace.{joined, recordsFrom, wholeRecords, wordAt}
-use Rattle.fifo_c.specs.Bytes.{byteOf, lowByte, putWord, wordsIn}
+use Rattle.fifo_c.specs.Bytes.{byteOf, lowByte, putFour, putWord, wordsIn}
 
 pub word-again : (word : ℕ) → word < 2 ^ 32 → joined (byteOf 24 word) (byteOf 16 word) (byteOf 8 word) (lowByte word) ≡ word
 word-again word h =
@@ -17,7 +17,7 @@ word-again word h =
     rw e (omega arith)
 
 pub put-length : (bytes : List ℕ) (at word : ℕ) → length (putWord bytes at word) ≡ length bytes
-unfolding putWord
+unfolding putWord putFour
 put-length bytes at word = simp length-set
 
 -- the bytes after the first, the second and the third of a word's bytes
@@ -31,7 +31,7 @@ abbrev three : List ℕ → ℕ → ℕ → List ℕ
 three bytes at word = set (two bytes at word) (at + 2) (byteOf 8 word)
 
 put-byte-other : (bytes : List ℕ) (at word i : ℕ) → i ≢ at → i ≢ at + 1 → i ≢ at + 2 → i ≢ at + 3 → getD (putWord bytes at word) i 0 ≡ getD bytes i 0
-unfolding putWord
+unfolding putWord putFour
 put-byte-other bytes at word i a b c d =
     getD-set-other (three bytes at word) (at + 3) i (lowByte word) 0 d ∙ getD-set-other (two bytes at word) (at + 2) i (byteOf 8 word) 0 c
     ∙ getD-set-other (one bytes at word) (at + 1) i (byteOf 16 word) 0 b
@@ -52,7 +52,7 @@ put-other bytes place word other apart =
     refl
 
 put-same : (bytes : List ℕ) (place word : ℕ) → place * 4 + 3 < length bytes → word < 2 ^ 32 → wordAt (putWord bytes (place * 4) word) (place * 4) ≡ word
-unfolding wordAt putWord
+unfolding wordAt putWord putFour
 put-same bytes place word within h =
     let at = place * 4 in
     let b0 = one bytes at word in

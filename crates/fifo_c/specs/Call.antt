@@ -1,6 +1,6 @@
 -- Bench figures, the C call: one sample on a part number and byte buffers.
 use Prim.Native.Nat.{ℕ, _+_, _*_, _<_}
-use mathlib.Core.Bool.{Bool, cond, _&&_}
+use mathlib.Core.Bool.{Bool, true, cond, _&&_}
 use mathlib.Core.List.{List}
 use mathlib.Core.Path.{_≡_}
 use lib.Dec.{eqb}
@@ -19,12 +19,10 @@ use Rattle.fifo.specs.Run.{putAnswer}
 use Rattle.fifo.specs.Sample.{recordRefusal}
 use Rattle.pins.specs.Record.{pinsOf}
 use Rattle.pins.specs.Trace.{wordAt}
-use Rattle.fifo_c.specs.declared.state.Spelt.{Spelt}
-use Rattle.fifo_c.specs.declared.state.Spelt.the-variants.{As, NoState}
 use Rattle.fifo_c.specs.declared.verdict.Verdict.{Verdict}
-use Rattle.fifo_c.specs.declared.verdict.Verdict.the-variants.{Take, Refuse}
+use Rattle.fifo_c.specs.declared.verdict.Verdict.the-variants.{Work, Refuse}
 use Rattle.fifo_c.specs.Bytes.{putWord}
-use Rattle.fifo_c.specs.Spelling.{spelling, spelt, stateBytes}
+use Rattle.fifo_c.specs.Spelling.{spelling, spells, stateBytes, stateIn}
 
 abbrev pub wordSize : ℕ
 wordSize = 4
@@ -43,24 +41,30 @@ memoryFor number = byPart (partOf number) memoryBytes 0
 abbrev pub roomy : Part → ℕ → ℕ → ℕ → Bool
 roomy part state memory answer = eqb state stateBytes && eqb memory (memoryBytes part) && eqb answer answerBytes
 
--- taken, or the number
-abbrev pub verdictOf : ℕ → Part → ℕ → State → Verdict
-verdictOf number part x s = cond (eqb number 0) (Take part x s) (Refuse number)
+pub record Lengths (part : Part) (spelling words room : ℕ) : Type 0 where
+  pub state : spelling ≡ stateBytes
+  pub memory : words ≡ memoryBytes part
+  pub answer : room ≡ answerBytes
 
--- 4 on the record's length, then 4 on bit 18 and 5 to 10
-unfoldable pub onRecord : Part → List ℕ → State → Verdict
-onRecord part bytes s = cond (eqb (length bytes) wordSize) (verdictOf (recordRefusal part (wordAt bytes 0) s) part (wordAt bytes 0) s) (Refuse 4)
+-- a part, a state and two lengths that pass 1, 2 and 3
+pub record Ready (part : Part) (state : List ℕ) (memory answer : ℕ) : Type 0 where
+  pub lengths : Lengths part (length state) memory answer
+  pub spelled : spells state ≡ true
+  pub passed : passes part (stateIn state) ≡ true
+
+-- 4 on the record's length
+unfoldable pub onRecord : Part → List ℕ → Verdict
+onRecord part bytes = cond (eqb (length bytes) wordSize) (Work part (wordAt bytes 0)) (Refuse 4)
 
 -- 3 where the bytes spell no state, and where the state fails its test
-abbrev pub onSpelt : Part → List ℕ → Spelt → Verdict
-onSpelt part bytes (As s) = cond (passes part s) (onRecord part bytes s) (Refuse 3)
-onSpelt part bytes NoState = Refuse 3
+unfoldable pub onState : Part → List ℕ → List ℕ → Verdict
+onState part bytes state = cond (spells state && passes part (stateIn state)) (onRecord part bytes) (Refuse 3)
 
--- 1, 2, 3 and 4 to 10, on the record, the state and two lengths
+-- 1, 2, 3 and 4, on the record, the state and two lengths
 unfoldable pub judged : ℕ → List ℕ → List ℕ → ℕ → ℕ → Verdict
 judged number bytes state memory answer =
     byPart (partOf number)
-    (λ part. cond (roomy part (length state) memory answer) (onSpelt part bytes (spelt state)) (Refuse 2))
+    (λ part. cond (roomy part (length state) memory answer) (onState part bytes state) (Refuse 2))
     (Refuse 1)
 
 -- what comes back of a call, and every byte of the three buffers after it
@@ -98,13 +102,22 @@ taken part x s memory answer = took (advanced part (pinsOf x) (fetchedFrom part 
 abbrev pub turnedAway : ℕ → List ℕ → List ℕ → List ℕ → Called
 turnedAway number state memory answer = record { code = number; state = state; memory = memory; answer = answer }
 
--- the refusal's number, 0 for a record to be taken
+-- 4 on bit 18 and 5 to 10, or the record taken
+abbrev pub decided : Bool → ℕ → Part → ℕ → List ℕ → List ℕ → List ℕ → Called
+decided free number part x state memory answer = cond free (taken part x (stateIn state) memory answer) (turnedAway number state memory answer)
+
+unfoldable pub worked : Part → ℕ → List ℕ → List ℕ → List ℕ → Called
+worked part x state memory answer =
+    let number = recordRefusal part x (stateIn state) in
+    decided (eqb number 0) number part x state memory answer
+
+-- the refusal's number, 0 for a record to be worked
 abbrev pub numberOf : Verdict → ℕ
-numberOf (Take part x s) = 0
+numberOf (Work part x) = 0
 numberOf (Refuse number) = number
 
 abbrev pub byVerdict : Verdict → List ℕ → List ℕ → List ℕ → Called
-byVerdict (Take part x s) state memory answer = taken part x s memory answer
+byVerdict (Work part x) state memory answer = worked part x state memory answer
 byVerdict (Refuse number) state memory answer = turnedAway number state memory answer
 
 unfoldable pub called : ℕ → List ℕ → List ℕ → List ℕ → List ℕ → Called
@@ -119,8 +132,9 @@ unfoldable pub powered : List ℕ → Powered
 powered state =
     cond (eqb (length state) stateBytes) (record { code = 0; state = spelling poweredUp }) (record { code = 2; state = state })
 
--- buffers that are those of a definition
-pub record Takes (expected : Called) (state′ memory′ answer′ : List ℕ) : Type 0 where
+-- a number and buffers that are those of a definition
+pub record Gives (expected : Called) (r : ℕ) (state′ memory′ answer′ : List ℕ) : Type 0 where
+  pub result : r ≡ expected .code
   pub spelled : state′ ≡ expected .state
   pub words : memory′ ≡ expected .memory
   pub room : answer′ ≡ expected .answer
@@ -136,8 +150,5 @@ pub record PowersUp (state : List ℕ) (r : ℕ) (state′ : List ℕ) : Type 0 
   pub result : r ≡ powered state .code
   pub spelled : state′ ≡ powered state .state
 
-pub record Calls (number : ℕ) (bytes state memory answer : List ℕ) (r : ℕ) (state′ memory′ answer′ : List ℕ) : Type 0 where
-  pub result : r ≡ called number bytes state memory answer .code
-  pub spelled : state′ ≡ called number bytes state memory answer .state
-  pub words : memory′ ≡ called number bytes state memory answer .memory
-  pub room : answer′ ≡ called number bytes state memory answer .answer
+abbrev pub Calls : ℕ → List ℕ → List ℕ → List ℕ → List ℕ → ℕ → List ℕ → List ℕ → List ℕ → Type 0
+Calls number bytes state memory answer r state′ memory′ answer′ = Gives (called number bytes state memory answer) r state′ memory′ answer′

@@ -1,8 +1,7 @@
 -- The state's bytes, its levels and enums: each as a digit.
-use Prim.Native.Nat.{ℕ, _+_, _*_, _%_}
+use Prim.Native.Nat.{ℕ, _%_}
 use mathlib.Core.Bool.{Bool, true, false, cond}
 use lib.Dec.{eqb}
-use Rattle.chip.specs.declared.state.State.{State}
 use Rattle.offsets.specs.declared.reading.Shows.{Shows}
 use Rattle.offsets.specs.declared.reading.Shows.the-variants.{Register, Offset}
 use Rattle.offsets.specs.declared.registers.Method.{Method}
@@ -11,8 +10,6 @@ use Rattle.offsets.specs.declared.registers.Next.{Next}
 use Rattle.offsets.specs.declared.registers.Next.the-variants.{N, M}
 use Rattle.sides.specs.declared.read.Mode.{Mode}
 use Rattle.sides.specs.declared.read.Mode.the-variants.{Standard, Fwft}
-use Rattle.sides.specs.declared.read.ReadSide.{ReadSide}
-use Rattle.sides.specs.declared.write.WriteSide.{WriteSide}
 use Rattle.views.specs.declared.retransmit.Setup.{Setup}
 use Rattle.views.specs.declared.retransmit.Setup.the-variants.{Over, OneMore, TwoMore}
 use Rattle.views.specs.declared.retransmit.View.{View}
@@ -21,18 +18,12 @@ use Rattle.views.specs.declared.stages.ReadRise.{ReadRise}
 use Rattle.views.specs.declared.stages.ReadRise.the-variants as readRise
 use Rattle.views.specs.declared.stages.WriteRise.{WriteRise}
 use Rattle.views.specs.declared.stages.WriteRise.the-variants as writeRise
-use Rattle.views.specs.Stages.{readRose, writeRose}
 
 abbrev pub digitOf : Bool → ℕ
 digitOf level = cond level 1 0
 
--- the lowest binary digit
 abbrev pub levelOf : ℕ → Bool
-levelOf marks = eqb (marks % 2) 1
-
--- the lowest digit of four values
-abbrev pub digitOfFour : ℕ → ℕ
-digitOfFour marks = marks % 4
+levelOf digit = eqb (digit % 2) 1
 
 abbrev pub viewDigit : View → ℕ
 viewDigit Unseen = 0
@@ -52,7 +43,7 @@ setupOf digit = cond (eqb digit 0) Over (cond (eqb digit 1) OneMore TwoMore)
 
 abbrev pub modeDigit : Mode → ℕ
 modeDigit Standard = 0
-modeDigit (Fwft untaken) = 1 + digitOf untaken
+modeDigit (Fwft untaken) = cond untaken 2 1
 
 abbrev pub modeOf : ℕ → Mode
 modeOf digit = cond (eqb digit 0) Standard (Fwft (eqb digit 2))
@@ -93,16 +84,3 @@ shownOffset (Offset offset) = offset
 
 abbrev pub showsOf : Bool → ℕ → Shows
 showsOf offset shown = cond offset (Offset shown) Register
-
--- the digits of the write side, of the read side, and of the rest, each in a byte
-unfoldable pub writeMarks : WriteSide → ℕ
-writeMarks w = digitOf (w .level) + 2 * digitOf (w .wrapped) + 4 * digitOf (readRose (w .latest)) + 8 * digitOf (w .paf) + 16 * viewDigit (w .view)
-
-unfoldable pub readMarks : ReadSide → ℕ
-readMarks r = digitOf (r .level) + 2 * digitOf (writeRose (r .latest)) + 4 * digitOf (r .pae) + 8 * setupDigit (r .setup) + 32 * modeDigit (r .mode)
-
-unfoldable pub otherMarks : State → ℕ
-otherMarks s =
-    digitOf (s .started) + 2 * digitOf (isSerial (s .offsets .method)) + 4 * digitOf (isM (s .offsets .next))
-    + 8 * digitOf (isM (s .reading .next))
-    + 16 * digitOf (showsOffset (s .reading .shows))

@@ -1,149 +1,166 @@
--- The state's bytes: nine words, and the one spelling of each state.
-use Prim.Native.Nat.{ℕ, _+_, _*_, _/_, _%_, _^_}
-use mathlib.Core.Bool.{Bool, cond, _&&_}
+-- The state's bytes, and the one spelling of each state.
+use Prim.Native.Nat.{ℕ, _+_, _*_, _^_}
+use mathlib.Core.Bool.{Bool, _&&_, _||_}
 use mathlib.Core.List.{List, [], _∷_, _++_}
-use lib.Dec.{eqb}
+use lib.Dec.{eqb, ltb}
 use lib.ListN.{getD, set}
 use Rattle.chip.specs.declared.state.State.{State}
 use Rattle.offsets.specs.declared.reading.Reading.{Reading}
 use Rattle.offsets.specs.declared.registers.Offsets.{Offsets}
-use Rattle.pins.specs.Trace.{joined}
 use Rattle.offsets.specs.Registers.{methodOf}
+use Rattle.pins.specs.Trace.{joined}
 use Rattle.sides.specs.declared.read.ReadSide.{ReadSide}
 use Rattle.sides.specs.declared.write.WriteSide.{WriteSide}
-use Rattle.fifo_c.specs.declared.spelling.Words.{Words}
-use Rattle.fifo_c.specs.declared.state.Spelt.{Spelt}
-use Rattle.fifo_c.specs.declared.state.Spelt.the-variants.{As, NoState}
-use Rattle.fifo_c.specs.Bytes.{byteOf, lowByte}
-use Rattle.fifo_c.specs.Marks.{digitOfFour, levelOf, modeOf, nextOf, otherMarks, readBefore, readMarks, readRiseOf, setupOf, shownOffset, showsOf, viewOf, writeBefore, writeMarks, writeRiseOf}
-
--- two numbers of 16 bits in a word
-abbrev pub paired : ℕ → ℕ → ℕ
-paired high low = high * 2 ^ 16 + low
-
-abbrev pub highOf : ℕ → ℕ
-highOf word = word / 2 ^ 16
-
-abbrev pub lowOf : ℕ → ℕ
-lowOf word = word % 2 ^ 16
-
--- each side's count and stages, with the count remembered for a missed skew; the offsets, loaded, loading and shown; the output register
-unfoldable pub wordsOf : State → Words
-wordsOf s = record {
-  marks = writeMarks (s .write) * 2 ^ 24 + readMarks (s .read) * 2 ^ 16 + otherMarks s * 2 ^ 8 + s .offsets .count;
-  write = paired (s .write .count .0) (s .write .first .0);
-  «write_second» = paired (s .write .second .0) (readBefore (s .write .latest));
-  read = paired (s .read .count .0) (s .read .first .0);
-  «read_second» = paired (s .read .second .0) (writeBefore (s .read .latest));
-  offsets = paired (s .offsets .n) (s .offsets .m);
-  serial = s .offsets .serial;
-  shown = shownOffset (s .reading .shows);
-  output = s .read .output;
-}
-
--- the state that nine words give if they are a spelling at all
-unfoldable pub writeOf : ℕ → ℕ → ℕ → WriteSide
-writeOf marks counts seconds = record {
-  level = levelOf marks;
-  count = record { 0 = highOf counts };
-  wrapped = levelOf (marks / 2);
-  first = record { 0 = lowOf counts };
-  second = record { 0 = highOf seconds };
-  latest = readRiseOf (levelOf (marks / 4)) (lowOf seconds);
-  view = viewOf (digitOfFour (marks / 16));
-  paf = levelOf (marks / 8);
-}
-
-unfoldable pub readOf : ℕ → ℕ → ℕ → ℕ → ReadSide
-readOf marks counts seconds output = record {
-  level = levelOf marks;
-  count = record { 0 = highOf counts };
-  first = record { 0 = lowOf counts };
-  second = record { 0 = highOf seconds };
-  latest = writeRiseOf (levelOf (marks / 2)) (lowOf seconds);
-  setup = setupOf (digitOfFour (marks / 8));
-  pae = levelOf (marks / 4);
-  mode = modeOf (digitOfFour (marks / 32));
-  output = output;
-}
-
-unfoldable pub offsetsOf : ℕ → ℕ → ℕ → ℕ → Offsets
-offsetsOf marks both serial count = record {
-  n = highOf both;
-  m = lowOf both;
-  method = methodOf (levelOf (marks / 2));
-  next = nextOf (levelOf (marks / 4));
-  serial = serial;
-  count = count;
-}
-
-unfoldable pub readingOf : ℕ → ℕ → Reading
-readingOf marks shown = record { next = nextOf (levelOf (marks / 8)); shows = showsOf (levelOf (marks / 16)) shown }
-
-unfoldable pub stateOf : Words → State
-stateOf w = record {
-  started = levelOf (w .marks / 2 ^ 8);
-  write = writeOf (w .marks / 2 ^ 24) (w .write) (w .«write_second»);
-  read = readOf (w .marks / 2 ^ 16) (w .read) (w .«read_second») (w .output);
-  offsets = offsetsOf (w .marks / 2 ^ 8) (w .offsets) (w .serial) (lowByte (w .marks));
-  reading = readingOf (w .marks / 2 ^ 8) (lowOf (w .shown));
-}
-
-unfoldable pub same : Words → Words → Bool
-same a b =
-    eqb (a .marks) (b .marks) && eqb (a .write) (b .write) && eqb (a .«write_second») (b .«write_second») && eqb (a .read) (b .read)
-    && eqb (a .«read_second») (b .«read_second»)
-    && eqb (a .offsets) (b .offsets)
-    && eqb (a .serial) (b .serial)
-    && eqb (a .shown) (b .shown)
-    && eqb (a .output) (b .output)
+use Rattle.views.specs.Stages.{readRose, writeRose}
+use Rattle.fifo_c.specs.Bytes.{byteOf, lowByte, putFour}
+use Rattle.fifo_c.specs.Marks.{digitOf, isM, isSerial, levelOf, modeDigit, modeOf, nextOf, readBefore, readRiseOf, setupDigit, setupOf, shownOffset, showsOf, showsOffset, viewDigit, viewOf, writeBefore, writeRiseOf}
 
 abbrev pub stateBytes : ℕ
-stateBytes = 36
+stateBytes = 48
 
--- in the state's bytes a word has its byte of least weight first, as the processors that this is built for keep it
+-- a byte for each level and each enum, and one for the number of serial bits
+abbrev pub digitsOf : State → List ℕ
+digitsOf s =
+    digitOf (s .started) ∷ digitOf (s .write .level) ∷ digitOf (s .read .level) ∷ digitOf (s .write .wrapped)
+    ∷ digitOf (readRose (s .write .latest)) ∷ digitOf (writeRose (s .read .latest)) ∷ digitOf (s .write .paf) ∷ digitOf (s .read .pae)
+    ∷ digitOf (isSerial (s .offsets .method)) ∷ digitOf (isM (s .offsets .next)) ∷ digitOf (isM (s .reading .next)) ∷ digitOf (showsOffset (s .reading .shows))
+    ∷ viewDigit (s .write .view) ∷ setupDigit (s .read .setup) ∷ modeDigit (s .read .mode) ∷ s .offsets .count ∷ []
+
+-- numbers have their byte of least weight first, as the processors that this is built for keep them
+abbrev pub pair : ℕ → ℕ → List ℕ
+pair first second = lowByte first ∷ byteOf 8 first ∷ lowByte second ∷ byteOf 8 second ∷ []
+
 abbrev pub lowFirst : ℕ → List ℕ
 lowFirst word = lowByte word ∷ byteOf 8 word ∷ byteOf 16 word ∷ byteOf 24 word ∷ []
+
+-- each side's count and stages, with the count remembered for a missed skew
+abbrev pub countsOf : State → List ℕ
+countsOf s =
+    pair (s .write .count .0) (s .write .first .0) ++ pair (s .write .second .0) (readBefore (s .write .latest))
+    ++ pair (s .read .count .0) (s .read .first .0) ++ pair (s .read .second .0) (writeBefore (s .read .latest))
+
+-- the offsets, loaded, loading and shown, and the output register; two bytes are left over
+abbrev pub restOf : State → List ℕ
+restOf s =
+    pair (s .offsets .n) (s .offsets .m) ++ lowFirst (s .offsets .serial) ++ pair (shownOffset (s .reading .shows)) 0 ++ lowFirst (s .read .output)
+
+-- how a state is written
+unfoldable pub spelling : State → List ℕ
+spelling s = digitsOf s ++ countsOf s ++ restOf s
+
+-- one level, one number of 16 bits and one of 32, read from their bytes
+unfoldable pub levelAt : List ℕ → ℕ → Bool
+levelAt bytes at = levelOf (getD bytes at 0)
+
+unfoldable pub halfAt : List ℕ → ℕ → ℕ
+halfAt bytes at = getD bytes (at + 1) 0 * 2 ^ 8 + getD bytes at 0
 
 unfoldable pub lowFirstAt : List ℕ → ℕ → ℕ
 lowFirstAt bytes at = joined (getD bytes (at + 3) 0) (getD bytes (at + 2) 0) (getD bytes (at + 1) 0) (getD bytes at 0)
 
-unfoldable pub wordsAt : List ℕ → Words
-wordsAt bytes = record {
-  marks = lowFirstAt bytes 0;
-  write = lowFirstAt bytes 4;
-  «write_second» = lowFirstAt bytes 8;
-  read = lowFirstAt bytes 12;
-  «read_second» = lowFirstAt bytes 16;
-  offsets = lowFirstAt bytes 20;
-  serial = lowFirstAt bytes 24;
-  shown = lowFirstAt bytes 28;
-  output = lowFirstAt bytes 32;
+-- the state that bytes give if they are a spelling at all
+unfoldable pub writeIn : List ℕ → WriteSide
+writeIn bytes = record {
+  level = levelAt bytes 1;
+  count = record { 0 = halfAt bytes 16 };
+  wrapped = levelAt bytes 3;
+  first = record { 0 = halfAt bytes 18 };
+  second = record { 0 = halfAt bytes 20 };
+  latest = readRiseOf (levelAt bytes 4) (halfAt bytes 22);
+  view = viewOf (getD bytes 12 0);
+  paf = levelAt bytes 6;
 }
 
-abbrev pub inOrder : Words → List ℕ
-inOrder w =
-    w .marks ∷ w .write ∷ w .«write_second» ∷ w .read ∷ w .«read_second» ∷ w .offsets ∷ w .serial ∷ w .shown ∷ w .output ∷ []
+unfoldable pub readIn : List ℕ → ReadSide
+readIn bytes = record {
+  level = levelAt bytes 2;
+  count = record { 0 = halfAt bytes 24 };
+  first = record { 0 = halfAt bytes 26 };
+  second = record { 0 = halfAt bytes 28 };
+  latest = writeRiseOf (levelAt bytes 5) (halfAt bytes 30);
+  setup = setupOf (getD bytes 13 0);
+  pae = levelAt bytes 7;
+  mode = modeOf (getD bytes 14 0);
+  output = lowFirstAt bytes 44;
+}
 
-abbrev pub allLowFirst : List ℕ → List ℕ
-allLowFirst [] = []
-allLowFirst (word ∷ words) = lowFirst word ++ allLowFirst words
+unfoldable pub offsetsIn : List ℕ → Offsets
+offsetsIn bytes = record {
+  n = halfAt bytes 32;
+  m = halfAt bytes 34;
+  method = methodOf (levelAt bytes 8);
+  next = nextOf (levelAt bytes 9);
+  serial = lowFirstAt bytes 36;
+  count = getD bytes 15 0;
+}
 
-unfoldable pub bytesOf : Words → List ℕ
-bytesOf w = allLowFirst (inOrder w)
+unfoldable pub readingIn : List ℕ → Reading
+readingIn bytes = record { next = nextOf (levelAt bytes 10); shows = showsOf (levelAt bytes 11) (halfAt bytes 40) }
 
--- putting one of these words over four bytes
+unfoldable pub stateIn : List ℕ → State
+stateIn bytes = record {
+  started = levelAt bytes 0;
+  write = writeIn bytes;
+  read = readIn bytes;
+  offsets = offsetsIn bytes;
+  reading = readingIn bytes;
+}
+
+-- four bytes that are levels
+unfoldable pub fourLevels : List ℕ → ℕ → Bool
+fourLevels bytes at =
+    let four = lowFirstAt bytes at in
+    ltb (lowByte four) 2 && ltb (byteOf 8 four) 2 && ltb (byteOf 16 four) 2 && ltb (byteOf 24 four) 2
+
+unfoldable pub spelledDigits : List ℕ → Bool
+spelledDigits bytes =
+    fourLevels bytes 0 && fourLevels bytes 4 && fourLevels bytes 8 && ltb (getD bytes 12 0) 3 && ltb (getD bytes 13 0) 3 && ltb (getD bytes 14 0) 3
+
+-- no count where none is remembered, no offset where none is shown, and two bytes that nothing uses
+unfoldable pub blankElsewhere : List ℕ → Bool
+blankElsewhere bytes =
+    (levelAt bytes 4 || eqb (halfAt bytes 22) 0) && (levelAt bytes 5 || eqb (halfAt bytes 30) 0) && (levelAt bytes 11 || eqb (halfAt bytes 40) 0)
+    && eqb (halfAt bytes 42) 0
+
+-- whether bytes spell a state at all
+unfoldable pub spells : List ℕ → Bool
+spells bytes = spelledDigits bytes && blankElsewhere bytes
+
+-- writing over what stood there
+unfoldable pub putPair : List ℕ → ℕ → ℕ → ℕ → List ℕ
+putPair bytes at first second = putFour bytes at (lowByte first) (byteOf 8 first) (lowByte second) (byteOf 8 second)
+
 unfoldable pub putLowFirst : List ℕ → ℕ → ℕ → List ℕ
-putLowFirst bytes at word =
-    set (set (set (set bytes at (lowByte word)) (at + 1) (byteOf 8 word)) (at + 2) (byteOf 16 word)) (at + 3) (byteOf 24 word)
+putLowFirst bytes at word = putFour bytes at (lowByte word) (byteOf 8 word) (byteOf 16 word) (byteOf 24 word)
 
--- how a state is written
-abbrev pub spelling : State → List ℕ
-spelling s = bytesOf (wordsOf s)
+unfoldable pub putFourLevels : List ℕ → ℕ → Bool → Bool → Bool → Bool → List ℕ
+putFourLevels bytes at first second third fourth = putFour bytes at (digitOf first) (digitOf second) (digitOf third) (digitOf fourth)
 
--- words spell the state whose own words they are, and else none
-abbrev pub speltBy : Words → Spelt
-speltBy w = cond (same (wordsOf (stateOf w)) w) (As (stateOf w)) NoState
+unfoldable pub putLevels : State → List ℕ → List ℕ
+putLevels s bytes =
+    putFourLevels
+    (putFourLevels
+    (putFourLevels bytes 0 (s .started) (s .write .level) (s .read .level) (s .write .wrapped))
+    4 (readRose (s .write .latest)) (writeRose (s .read .latest)) (s .write .paf) (s .read .pae))
+    8 (isSerial (s .offsets .method)) (isM (s .offsets .next)) (isM (s .reading .next)) (showsOffset (s .reading .shows))
 
-unfoldable pub spelt : List ℕ → Spelt
-spelt bytes = speltBy (wordsAt bytes)
+unfoldable pub putEnums : State → List ℕ → List ℕ
+putEnums s bytes = putFour bytes 12 (viewDigit (s .write .view)) (setupDigit (s .read .setup)) (modeDigit (s .read .mode)) (s .offsets .count)
+
+unfoldable pub putCounts : State → List ℕ → List ℕ
+putCounts s bytes =
+    putPair
+    (putPair
+    (putPair (putPair bytes 16 (s .write .count .0) (s .write .first .0)) 20 (s .write .second .0) (readBefore (s .write .latest)))
+    24 (s .read .count .0) (s .read .first .0))
+    28 (s .read .second .0) (writeBefore (s .read .latest))
+
+unfoldable pub putRest : State → List ℕ → List ℕ
+putRest s bytes =
+    putLowFirst
+    (putPair (putLowFirst (putPair bytes 32 (s .offsets .n) (s .offsets .m)) 36 (s .offsets .serial)) 40 (shownOffset (s .reading .shows)) 0)
+    44 (s .read .output)
+
+-- the two clocks' levels alone
+unfoldable pub putClocks : Bool → Bool → List ℕ → List ℕ
+putClocks wclk rclk bytes = set (set bytes 1 (digitOf wclk)) 2 (digitOf rclk)

@@ -1,14 +1,14 @@
 -- The state's bytes: each state is read back as it was written, and what was read is written back as the same bytes.
-use Prim.Native.Nat.{ℕ, zero, suc, _+_, _*_, _/_, _%_, _^_, _<_}
-use mathlib.Core.Bool.{Bool, true, false, cond, _&&_, and-eq-true-iff}
-use mathlib.Core.List.{List, [], _∷_}
+use Prim.Native.Nat.{ℕ, zero, suc, _+_, _*_, _^_, _<_}
+use mathlib.Core.Bool.{Bool, true, false, _&&_, _||_, and-eq-true-iff}
+use mathlib.Core.List.{List, [], _∷_, _++_}
 use mathlib.Core.Path.{_≡_, refl, sym, ap, subst, _∙_}
-use lib.Dec.{eqb}
+use lib.Dec.{eqb, ltb}
 use lib.ListN.{getD, length}
+use borrow.Author.Tests.{eqb-true, lt-ltb, ltb-true}
 use native.Mathlib.Omega.{arith}
-use Rattle.offsets.specs.declared.reading.Shows.{Shows}
-use Rattle.offsets.specs.declared.reading.Shows.the-variants.{Register, Offset}
 use Rattle.chip.specs.declared.state.State.{State}
+use Rattle.chip.specs.Counted.{Counted, power-up-counted, ReadRemembered, WriteRemembered}
 use Rattle.chip.specs.Reset.{poweredUp}
 use Rattle.chip.specs.ResetLaws.{power-up-passes}
 use Rattle.chip.specs.State.{widths}
@@ -16,21 +16,22 @@ use Rattle.chip.specs.Widths.{apart, tested-widths}
 use Rattle.counts.specs.declared.part.Part.{Part}
 use Rattle.counts.specs.declared.part.Part.the-variants.{Idt72V255LA, Idt72V265LA}
 use Rattle.counts.specs.Part.{offsetBits}
+use Rattle.offsets.specs.declared.reading.Shows.{Shows}
+use Rattle.offsets.specs.declared.reading.Shows.the-variants.{Register, Offset}
 use Rattle.offsets.specs.Fits.{few-bits, fits, serial-small}
 use Rattle.offsets.specs.Reading.{shownFits}
-use Rattle.fifo_c.specs.declared.state.Spelt.the-variants.{As, NoState}
-use Rattle.fifo_c.specs.MarksLaws.{HalfWord, offsets-again, other-marks-small, read-again, read-marks-small, reading-again, rest-again, write-again, write-marks-small}
-use Rattle.chip.specs.Counted.{Counted, power-up-counted, ReadRemembered, WriteRemembered}
+use Rattle.chip.specs.Quiet.{held}
 use Rattle.views.specs.declared.stages.ReadRise.{ReadRise}
 use Rattle.views.specs.declared.stages.ReadRise.the-variants as readRise
 use Rattle.views.specs.declared.stages.WriteRise.{WriteRise}
 use Rattle.views.specs.declared.stages.WriteRise.the-variants as writeRise
-use borrow.Author.Tests.{eq-eqb, eqb-true, ltb-true}
-use Rattle.fifo_c.specs.declared.spelling.Words.{Words}
-use Rattle.fifo_c.specs.Bytes.{byteOf, lowByte}
-use Rattle.fifo_c.specs.Marks.{levelOf, otherMarks, readBefore, readMarks, readRiseOf, shownOffset, writeBefore, writeMarks, writeRiseOf}
+use Rattle.views.specs.Stages.{readRose, writeRose}
 use Rattle.fifo_c.specs.BytesLaws.{word-again}
-use Rattle.fifo_c.specs.Spelling.{allLowFirst, bytesOf, inOrder, lowFirstAt, lowOf, putLowFirst, readOf, same, spelling, spelt, speltBy, stateBytes, stateOf, wordsAt, wordsOf, writeOf}
+use Rattle.pins.specs.declared.record.Pins.{Pins}
+use Rattle.fifo_c.specs.Bytes.{byteOf, lowByte, putFour}
+use Rattle.fifo_c.specs.Marks.{digitOf, isM, isSerial, modeDigit, modeOf, readBefore, readRiseOf, setupDigit, setupOf, shownOffset, showsOf, showsOffset, viewDigit, viewOf, writeBefore, writeRiseOf}
+use Rattle.fifo_c.specs.MarksLaws.{digit-back, level-again, level-small, method-again, method-back, mode-again, mode-back, mode-small, next-again, next-back, offset-back, read-before-back, read-blank, read-rise-again, read-rose-back, setup-again, setup-back, setup-small, shown-back, shows-again, shows-blank, view-again, view-back, view-small, write-before-back, write-blank, write-rise-again, write-rose-back}
+use Rattle.fifo_c.specs.Spelling.{blankElsewhere, countsOf, digitsOf, fourLevels, halfAt, levelAt, lowFirst, lowFirstAt, offsetsIn, pair, putClocks, putCounts, putEnums, putFourLevels, putLevels, putLowFirst, putPair, putRest, readIn, readingIn, restOf, spelledDigits, spelling, spells, stateBytes, stateIn, writeIn}
 
 -- the first elements of a list, one by one
 abbrev listed : ℕ → (ℕ → ℕ) → List ℕ
@@ -43,27 +44,160 @@ one-by-one zero (x ∷ xs) e = absurd (omega arith)
 one-by-one (suc many) [] e = absurd (omega arith)
 one-by-one (suc many) (x ∷ xs) e = ap (λ (l : List ℕ). x ∷ l) (one-by-one many xs (omega arith))
 
--- nine words put one after the other
-unfoldable pub putWords : Words → List ℕ → List ℕ
-putWords w bytes =
-    putLowFirst
-    (putLowFirst
-    (putLowFirst
-    (putLowFirst
-    (putLowFirst
-    (putLowFirst (putLowFirst (putLowFirst (putLowFirst bytes 0 (w .marks)) 4 (w .write)) 8 (w .«write_second»)) 12 (w .read))
-    16 (w .«read_second»))
-    20 (w .offsets))
-    24 (w .serial))
-    28 (w .shown))
-    32 (w .output)
-
 -- whatever stood there before
-pub put-over : (w : Words) (bytes : List ℕ) → length bytes ≡ stateBytes → putWords w bytes ≡ bytesOf w
-unfolding putWords putLowFirst bytesOf
-put-over w bytes e = rw (one-by-one stateBytes bytes e) refl
+pub put-over : (s : State) (bytes : List ℕ) → length bytes ≡ stateBytes → putRest s (putCounts s (putEnums s (putLevels s bytes))) ≡ spelling s
+unfolding putRest putCounts putEnums putLevels putFourLevels putLowFirst putPair putFour spelling
+put-over s bytes e = rw (one-by-one stateBytes bytes e) refl
 
--- what a state's numbers must keep below for its words to hold them
+-- where no clock rises only the levels are other bytes
+pub clocks-put : (p : Pins) (s : State) → putClocks (p .wclk) (p .rclk) (spelling s) ≡ spelling (held p s)
+unfolding putClocks spelling held
+clocks-put p s = refl
+
+pub spelling-length : (s : State) → length (spelling s) ≡ stateBytes
+unfolding spelling
+spelling-length s = refl
+
+abbrev pub Bytes : List ℕ → Type 0
+Bytes bytes = (i : ℕ) → getD bytes i 0 < 2 ^ 8
+
+module _ (bytes : List ℕ) (h : Bytes bytes) (i : ℕ) where
+  half-low : lowByte (halfAt bytes i) ≡ getD bytes i 0
+  unfolding halfAt
+  half-low = omega (arith, h i, h (i + 1))
+
+  half-high : byteOf 8 (halfAt bytes i) ≡ getD bytes (i + 1) 0
+  unfolding halfAt
+  half-high = omega (arith, h i, h (i + 1))
+
+  first-byte : lowByte (lowFirstAt bytes i) ≡ getD bytes i 0
+  unfolding lowFirstAt
+  first-byte = omega (arith, h i, h (i + 1), h (i + 2), h (i + 3))
+
+  second-byte : byteOf 8 (lowFirstAt bytes i) ≡ getD bytes (i + 1) 0
+  unfolding lowFirstAt
+  second-byte = omega (arith, h i, h (i + 1), h (i + 2), h (i + 3))
+
+  third-byte : byteOf 16 (lowFirstAt bytes i) ≡ getD bytes (i + 2) 0
+  unfolding lowFirstAt
+  third-byte = omega (arith, h i, h (i + 1), h (i + 2), h (i + 3))
+
+  fourth-byte : byteOf 24 (lowFirstAt bytes i) ≡ getD bytes (i + 3) 0
+  unfolding lowFirstAt
+  fourth-byte = omega (arith, h i, h (i + 1), h (i + 2), h (i + 3))
+
+-- four digits that are levels, each written back as it was read
+record Levels (bytes : List ℕ) (i : ℕ) : Type 0 where
+  first : digitOf (levelAt bytes i) ≡ getD bytes i 0
+  second : digitOf (levelAt bytes (i + 1)) ≡ getD bytes (i + 1) 0
+  third : digitOf (levelAt bytes (i + 2)) ≡ getD bytes (i + 2) 0
+  fourth : digitOf (levelAt bytes (i + 3)) ≡ getD bytes (i + 3) 0
+
+both : (a b : Bool) → (a && b) ≡ true → (a ≡ true) × (b ≡ true)
+both a b = and-eq-true-iff a b .0
+
+levels : (bytes : List ℕ) (i : ℕ) → Bytes bytes → fourLevels bytes i ≡ true → Levels bytes i
+unfolding fourLevels levelAt
+levels bytes i h e =
+    let four = lowFirstAt bytes i in
+    let c = both _ (ltb (byteOf 24 four) 2) e in
+    let b = both _ (ltb (byteOf 16 four) 2) (c .0) in
+    let a = both (ltb (lowByte four) 2) (ltb (byteOf 8 four) 2) (b .0) in
+    let below : (x : ℕ) → ltb x 2 ≡ true → x < 2 = λ x. ltb-true x 2 in
+    record {
+      first = digit-back _ (subst (λ (x : ℕ). x < 2) (first-byte bytes h i) (below _ (a .0)));
+      second = digit-back _ (subst (λ (x : ℕ). x < 2) (second-byte bytes h i) (below _ (a .1)));
+      third = digit-back _ (subst (λ (x : ℕ). x < 2) (third-byte bytes h i) (below _ (b .1)));
+      fourth = digit-back _ (subst (λ (x : ℕ). x < 2) (fourth-byte bytes h i) (below _ (c .1)));
+    }
+
+-- what a spelling says of its bytes
+record Own (bytes : List ℕ) : Type 0 where
+  start : Levels bytes 0
+  flags : Levels bytes 4
+  offsets : Levels bytes 8
+  view : viewDigit (viewOf (getD bytes 12 0)) ≡ getD bytes 12 0
+  setup : setupDigit (setupOf (getD bytes 13 0)) ≡ getD bytes 13 0
+  mode : modeDigit (modeOf (getD bytes 14 0)) ≡ getD bytes 14 0
+  read : readBefore (readRiseOf (levelAt bytes 4) (halfAt bytes 22)) ≡ halfAt bytes 22
+  write : writeBefore (writeRiseOf (levelAt bytes 5) (halfAt bytes 30)) ≡ halfAt bytes 30
+  shown : shownOffset (showsOf (levelAt bytes 11) (halfAt bytes 40)) ≡ halfAt bytes 40
+  blank : halfAt bytes 42 ≡ 0
+
+own : (bytes : List ℕ) → Bytes bytes → spells bytes ≡ true → Own bytes
+unfolding spells spelledDigits blankElsewhere
+own bytes h e =
+    let all = both (spelledDigits bytes) (blankElsewhere bytes) e in
+    let mode = both _ (ltb (getD bytes 14 0) 3) (all .0) in
+    let setup = both _ (ltb (getD bytes 13 0) 3) (mode .0) in
+    let view = both _ (ltb (getD bytes 12 0) 3) (setup .0) in
+    let offsets = both _ (fourLevels bytes 8) (view .0) in
+    let flags = both (fourLevels bytes 0) (fourLevels bytes 4) (offsets .0) in
+    let blank = both _ (eqb (halfAt bytes 42) 0) (all .1) in
+    let shown = both _ (levelAt bytes 11 || eqb (halfAt bytes 40) 0) (blank .0) in
+    let sides = both (levelAt bytes 4 || eqb (halfAt bytes 22) 0) (levelAt bytes 5 || eqb (halfAt bytes 30) 0) (shown .0) in
+    record {
+      start = levels bytes 0 h (flags .0);
+      flags = levels bytes 4 h (flags .1);
+      offsets = levels bytes 8 h (offsets .1);
+      view = view-back _ (ltb-true _ 3 (view .1));
+      setup = setup-back _ (ltb-true _ 3 (setup .1));
+      mode = mode-back _ (ltb-true _ 3 (mode .1));
+      read = read-before-back (halfAt bytes 22) (levelAt bytes 4) (sides .0);
+      write = write-before-back (halfAt bytes 30) (levelAt bytes 5) (sides .1);
+      shown = shown-back (halfAt bytes 40) (levelAt bytes 11) (shown .1);
+      blank = eqb-true (halfAt bytes 42) 0 (blank .1);
+    }
+
+-- what was read is written back as the same bytes
+pub written-back : (bytes : List ℕ) → length bytes ≡ stateBytes → Bytes bytes → spells bytes ≡ true → spelling (stateIn bytes) ≡ bytes
+unfolding spelling stateIn writeIn readIn offsetsIn readingIn
+written-back bytes room h e =
+    let o = own bytes h e in
+    let a = o .start in
+    let b = o .flags in
+    let c = o .offsets in
+    let blank : getD bytes 42 0 ≡ 0 = sym (half-low bytes h 42) ∙ ap lowByte (o .blank) in
+    let unused : getD bytes 43 0 ≡ 0 = sym (half-high bytes h 42) ∙ ap (byteOf 8) (o .blank) in
+    let same : spelling (stateIn bytes) ≡ listed stateBytes (λ i. getD bytes i 0) = simp (
+      read-rose-back,
+      write-rose-back,
+      method-back,
+      next-back,
+      offset-back,
+      a .first,
+      a .second,
+      a .third,
+      a .fourth,
+      b .first,
+      b .second,
+      b .third,
+      b .fourth,
+      c .first,
+      c .second,
+      c .third,
+      c .fourth,
+      o .view,
+      o .setup,
+      o .mode,
+      o .read,
+      o .write,
+      o .shown,
+      half-low bytes h,
+      half-high bytes h,
+      first-byte bytes h,
+      second-byte bytes h,
+      third-byte bytes h,
+      fourth-byte bytes h,
+      blank,
+      unused,
+    ) in
+    same ∙ sym (one-by-one stateBytes bytes room)
+
+abbrev HalfWord : ℕ → Type 0
+HalfWord number = number < 2 ^ 16
+
+-- what a state's numbers must keep below for its bytes to hold them
 record Small (s : State) : Type 0 where
   counts : Counted s
   m : HalfWord (s .offsets .m)
@@ -81,82 +215,97 @@ write-before-small : (latest : WriteRise) → WriteRemembered latest → HalfWor
 write-before-small writeRise.NoneSince h = omega arith
 write-before-small (writeRise.Before count) h = h
 
-state-again : (s : State) → Small s → stateOf (wordsOf s) ≡ s
-unfolding stateOf wordsOf
+half-again : (number : ℕ) → HalfWord number → byteOf 8 number * 2 ^ 8 + lowByte number ≡ number
+half-again number h = omega arith
+
+state-again : (s : State) → Small s → stateIn (spelling s) ≡ s
+unfolding stateIn writeIn readIn offsetsIn readingIn levelAt halfAt lowFirstAt spelling
 state-again s h =
-    let w = write-marks-small (s .write) in
-    let r = read-marks-small (s .read) in
-    let o = other-marks-small s in
-    let c = h .count in
-    let marks = writeMarks (s .write) * 2 ^ 24 + readMarks (s .read) * 2 ^ 16 + otherMarks s * 2 ^ 8 + s .offsets .count in
-    let rest = rest-again s (marks / 2 ^ 8) (8 * (readMarks (s .read) + 2 ^ 8 * writeMarks (s .write))) (omega arith) in
-    let write = write-again (s .write) (marks / 2 ^ 24) 0 (omega arith) (h .counts .writeFirst) (read-before-small (s .write .latest) (h .counts .writeLatest)) in
-    let read = read-again (s .read) (marks / 2 ^ 16) (2 * writeMarks (s .write)) (omega arith) (h .counts .readFirst) (write-before-small (s .read .latest) (h .counts .readLatest)) in
-    let offsets = offsets-again s (marks / 2 ^ 8) (marks % 2 ^ 8) rest (omega arith) (h .m) in
-    let reading = reading-again s (marks / 2 ^ 8) (shownOffset (s .reading .shows) % 2 ^ 16) rest (let k = h .shown in omega arith) in
-    rw (rest .started, write, read, offsets, reading) refl
-
-record SmallWords (w : Words) : Type 0 where
-  marks : w .marks < 2 ^ 32
-  write : w .write < 2 ^ 32
-  writeSecond : w .«write_second» < 2 ^ 32
-  read : w .read < 2 ^ 32
-  readSecond : w .«read_second» < 2 ^ 32
-  offsets : w .offsets < 2 ^ 32
-  serial : w .serial < 2 ^ 32
-  shown : w .shown < 2 ^ 32
-  output : w .output < 2 ^ 32
-
-words-again : (w : Words) → SmallWords w → wordsAt (bytesOf w) ≡ w
-unfolding wordsAt bytesOf lowFirstAt
-words-again w h =
+    let c = h .counts in
     rw (
-      word-again (w .marks) (h .marks),
-      word-again (w .write) (h .write),
-      word-again (w .«write_second») (h .writeSecond),
-      word-again (w .read) (h .read),
-      word-again (w .«read_second») (h .readSecond),
-      word-again (w .offsets) (h .offsets),
-      word-again (w .serial) (h .serial),
-      word-again (w .shown) (h .shown),
-      word-again (w .output) (h .output),
+      level-again (s .started),
+      level-again (s .write .level),
+      level-again (s .read .level),
+      level-again (s .write .wrapped),
+      level-again (readRose (s .write .latest)),
+      level-again (writeRose (s .read .latest)),
+      level-again (s .write .paf),
+      level-again (s .read .pae),
+      level-again (isSerial (s .offsets .method)),
+      level-again (isM (s .offsets .next)),
+      level-again (isM (s .reading .next)),
+      level-again (showsOffset (s .reading .shows)),
+      half-again (s .write .count .0) (c .write),
+      half-again (s .write .first .0) (c .writeFirst),
+      half-again (s .write .second .0) (c .writeSecond),
+      half-again (readBefore (s .write .latest)) (read-before-small (s .write .latest) (c .writeLatest)),
+      half-again (s .read .count .0) (c .read),
+      half-again (s .read .first .0) (c .readFirst),
+      half-again (s .read .second .0) (c .readSecond),
+      half-again (writeBefore (s .read .latest)) (write-before-small (s .read .latest) (c .readLatest)),
+      half-again (s .offsets .n) (h .n),
+      half-again (s .offsets .m) (h .m),
+      half-again (shownOffset (s .reading .shows)) (h .shown),
+      word-again (s .offsets .serial) (h .serial),
+      word-again (s .read .output) (h .output),
+      read-rise-again (s .write .latest),
+      write-rise-again (s .read .latest),
+      shows-again (s .reading .shows),
+      view-again (s .write .view),
+      setup-again (s .read .setup),
+      mode-again (s .read .mode),
+      method-again (s .offsets .method),
+      next-again (s .offsets .next),
+      next-again (s .reading .next),
     )
     refl
 
-words-small : (s : State) → Small s → SmallWords (wordsOf s)
-unfolding wordsOf
-words-small s h =
-    let w = write-marks-small (s .write) in
-    let r = read-marks-small (s .read) in
-    let o = other-marks-small s in
-    let a = read-before-small (s .write .latest) (h .counts .writeLatest) in
-    let b = write-before-small (s .read .latest) (h .counts .readLatest) in
-    let c = h .counts in
-    omega arith
+four-levels : (bytes : List ℕ) (i : ℕ) → getD bytes i 0 < 2 → getD bytes (i + 1) 0 < 2 → getD bytes (i + 2) 0 < 2 → getD bytes (i + 3) 0 < 2
+    → fourLevels bytes i ≡ true
+unfolding fourLevels lowFirstAt
+four-levels bytes i a b c d =
+    let four = lowFirstAt bytes i in
+    simp (lt-ltb (lowByte four) 2 (omega arith), lt-ltb (byteOf 8 four) 2 (omega arith), lt-ltb (byteOf 16 four) 2 (omega arith), lt-ltb (byteOf 24 four) 2 (omega arith))
 
-abbrev pub Bytes : List ℕ → Type 0
-Bytes bytes = (i : ℕ) → getD bytes i 0 < 2 ^ 8
+all-levels : (s : State) → fourLevels (spelling s) 0 && fourLevels (spelling s) 4 && fourLevels (spelling s) 8 ≡ true
+unfolding spelling
+all-levels s =
+    simp (
+      four-levels (spelling s) 0 (level-small (s .started)) (level-small (s .write .level)) (level-small (s .read .level)) (level-small (s .write .wrapped)),
+      four-levels (spelling s) 4 (level-small (readRose (s .write .latest))) (level-small (writeRose (s .read .latest))) (level-small (s .write .paf)) (level-small (s .read .pae)),
+      four-levels (spelling s) 8 (level-small (isSerial (s .offsets .method))) (level-small (isM (s .offsets .next))) (level-small (isM (s .reading .next)))
+          (level-small (showsOffset (s .reading .shows))),
+    )
 
-module _ (bytes : List ℕ) (h : Bytes bytes) (i : ℕ) where
-  first-byte : lowByte (lowFirstAt bytes i) ≡ getD bytes i 0
-  unfolding lowFirstAt
-  first-byte = omega (arith, h i, h (i + 1), h (i + 2), h (i + 3))
+own-digits : (s : State) → spelledDigits (spelling s) ≡ true
+unfolding spelledDigits spelling
+own-digits s =
+    simp (
+      all-levels s,
+      lt-ltb (viewDigit (s .write .view)) 3 (view-small (s .write .view)),
+      lt-ltb (setupDigit (s .read .setup)) 3 (setup-small (s .read .setup)),
+      lt-ltb (modeDigit (s .read .mode)) 3 (mode-small (s .read .mode)),
+    )
 
-  second-byte : byteOf 8 (lowFirstAt bytes i) ≡ getD bytes (i + 1) 0
-  unfolding lowFirstAt
-  second-byte = omega (arith, h i, h (i + 1), h (i + 2), h (i + 3))
+own-blanks : (s : State) → Small s → blankElsewhere (spelling s) ≡ true
+unfolding blankElsewhere levelAt halfAt spelling
+own-blanks s h =
+    simp (
+      level-again (readRose (s .write .latest)),
+      half-again (readBefore (s .write .latest)) (read-before-small (s .write .latest) (h .counts .writeLatest)),
+      read-blank (s .write .latest),
+      level-again (writeRose (s .read .latest)),
+      half-again (writeBefore (s .read .latest)) (write-before-small (s .read .latest) (h .counts .readLatest)),
+      write-blank (s .read .latest),
+      level-again (showsOffset (s .reading .shows)),
+      half-again (shownOffset (s .reading .shows)) (h .shown),
+      shows-blank (s .reading .shows),
+    )
 
-  third-byte : byteOf 16 (lowFirstAt bytes i) ≡ getD bytes (i + 2) 0
-  unfolding lowFirstAt
-  third-byte = omega (arith, h i, h (i + 1), h (i + 2), h (i + 3))
-
-  fourth-byte : byteOf 24 (lowFirstAt bytes i) ≡ getD bytes (i + 3) 0
-  unfolding lowFirstAt
-  fourth-byte = omega (arith, h i, h (i + 1), h (i + 2), h (i + 3))
-
-bytes-again : (bytes : List ℕ) → length bytes ≡ stateBytes → Bytes bytes → bytesOf (wordsAt bytes) ≡ bytes
-unfolding wordsAt bytesOf
-bytes-again bytes e h = simp (first-byte bytes h, second-byte bytes h, third-byte bytes h, fourth-byte bytes h) (sym (one-by-one stateBytes bytes e))
+-- bytes spell a state
+pub record Spelled (bytes : List ℕ) (s : State) : Type 0 where
+  pub own : spells bytes ≡ true
+  pub state : stateIn bytes ≡ s
 
 narrow : (part : Part) → 2 ^ offsetBits part < 2 ^ 16
 narrow Idt72V255LA = omega arith
@@ -184,109 +333,6 @@ small part s e counts =
       output = omega arith;
     }
 
-self : (number : ℕ) → eqb number number ≡ true
-self number = eq-eqb number number refl
-
-same-self : (w : Words) → same w w ≡ true
-unfolding same
-same-self w =
-    simp (
-      self (w .marks),
-      self (w .write),
-      self (w .«write_second»),
-      self (w .read),
-      self (w .«read_second»),
-      self (w .offsets),
-      self (w .serial),
-      self (w .shown),
-      self (w .output),
-    )
-
-both : (a b : Bool) → (a && b) ≡ true → (a ≡ true) × (b ≡ true)
-both a b = and-eq-true-iff a b .0
-
-same-equal : (a b : Words) → same a b ≡ true → a ≡ b
-unfolding same
-same-equal a b e =
-    let t9 = both _ (eqb (a .output) (b .output)) e in
-    let t8 = both _ (eqb (a .shown) (b .shown)) (t9 .0) in
-    let t7 = both _ (eqb (a .serial) (b .serial)) (t8 .0) in
-    let t6 = both _ (eqb (a .offsets) (b .offsets)) (t7 .0) in
-    let t5 = both _ (eqb (a .«read_second») (b .«read_second»)) (t6 .0) in
-    let t4 = both _ (eqb (a .read) (b .read)) (t5 .0) in
-    let t3 = both _ (eqb (a .«write_second») (b .«write_second»)) (t4 .0) in
-    let t2 = both (eqb (a .marks) (b .marks)) (eqb (a .write) (b .write)) (t3 .0) in
-    rw (
-      eqb-true (a .marks) (b .marks) (t2 .0),
-      eqb-true (a .write) (b .write) (t2 .1),
-      eqb-true (a .«write_second») (b .«write_second») (t3 .1),
-      eqb-true (a .read) (b .read) (t4 .1),
-      eqb-true (a .«read_second») (b .«read_second») (t5 .1),
-      eqb-true (a .offsets) (b .offsets) (t6 .1),
-      eqb-true (a .serial) (b .serial) (t7 .1),
-      eqb-true (a .shown) (b .shown) (t8 .1),
-      eqb-true (a .output) (b .output) (t9 .1),
-    ) refl
-
--- a state that passes the widths, its counts of 16 bits, is read back as it was written
-pub read-back : (part : Part) (s : State) → widths part s ≡ true → Counted s → spelt (spelling s) ≡ As s
-unfolding spelt
-read-back part s e counts =
-    let h = small part s e counts in
-    ap speltBy (words-again (wordsOf s) (words-small s h)) ∙ rw (state-again s h, same-self (wordsOf s)) refl
-
-pub power-up-read : spelt (spelling poweredUp) ≡ As poweredUp
-power-up-read = read-back Idt72V255LA poweredUp (tested-widths Idt72V255LA poweredUp (power-up-passes Idt72V255LA)) power-up-counted
-
-spelt-as : (own : Bool) (made s : State) → cond own (As made) NoState ≡ As s → (own ≡ true) × (made ≡ s)
-spelt-as true made s e = (refl, cc)
-spelt-as false made s e = let z : _≡_ {A = ℕ} 0 1 = cc in absurd (omega arith)
-
-word-small : (bytes : List ℕ) (i : ℕ) → Bytes bytes → lowFirstAt bytes i < 2 ^ 32
-unfolding lowFirstAt
-word-small bytes i h = omega (arith, h i, h (i + 1), h (i + 2), h (i + 3))
-
-read-rise-small : (rose : Bool) (count : ℕ) → HalfWord count → ReadRemembered (readRiseOf rose count)
-read-rise-small true count h = h
-read-rise-small false count h = tt
-
-write-rise-small : (rose : Bool) (count : ℕ) → HalfWord count → WriteRemembered (writeRiseOf rose count)
-write-rise-small true count h = h
-write-rise-small false count h = tt
-
-counts-small : (bytes : List ℕ) → Bytes bytes → Counted (stateOf (wordsAt bytes))
-unfolding stateOf writeOf readOf wordsAt
-counts-small bytes h =
-    let a = word-small bytes 4 h in
-    let b = word-small bytes 8 h in
-    let c = word-small bytes 12 h in
-    let d = word-small bytes 16 h in
-    record {
-      write = omega arith;
-      writeFirst = omega arith;
-      writeSecond = omega arith;
-      writeLatest = read-rise-small (levelOf (lowFirstAt bytes 0 / 2 ^ 24 / 4)) (lowOf (lowFirstAt bytes 8)) (omega arith);
-      read = omega arith;
-      readFirst = omega arith;
-      readSecond = omega arith;
-      readLatest = write-rise-small (levelOf (lowFirstAt bytes 0 / 2 ^ 16 / 2)) (lowOf (lowFirstAt bytes 16)) (omega arith);
-    }
-
-module _ (bytes : List ℕ) (s : State) (e : spelt bytes ≡ As s) where
-  split : (same (wordsOf (stateOf (wordsAt bytes))) (wordsAt bytes) ≡ true) × (stateOf (wordsAt bytes) ≡ s)
-  unfolding spelt
-  split = spelt-as (same (wordsOf (stateOf (wordsAt bytes))) (wordsAt bytes)) (stateOf (wordsAt bytes)) s e
-
-  own-words : wordsOf s ≡ wordsAt bytes
-  own-words = ap wordsOf (sym (split .1)) ∙ same-equal (wordsOf (stateOf (wordsAt bytes))) (wordsAt bytes) (split .0)
-
-  -- what was read is written back as the same bytes
-  pub written-back : length bytes ≡ stateBytes → Bytes bytes → spelling s ≡ bytes
-  written-back room h = ap bytesOf own-words ∙ bytes-again bytes room h
-
-  pub spelt-counted : Bytes bytes → Counted s
-  spelt-counted h = subst Counted (split .1) (counts-small bytes h)
-
 abbrev AllBytes : List ℕ → Type 0
 AllBytes [] = Unit {0}
 AllBytes (x ∷ xs) = (x < 2 ^ 8) × AllBytes xs
@@ -296,14 +342,119 @@ each-byte [] all i = omega arith
 each-byte (x ∷ xs) all zero = all .0
 each-byte (x ∷ xs) all (suc i) = each-byte xs (all .1) i
 
-all-bytes : (words : List ℕ) → AllBytes (allLowFirst words)
-all-bytes [] = tt
-all-bytes (word ∷ words) = (omega arith, (omega arith, (omega arith, (omega arith, all-bytes words))))
+joined-bytes : (first second : List ℕ) → AllBytes first → AllBytes second → AllBytes (first ++ second)
+joined-bytes [] second all more = more
+joined-bytes (x ∷ xs) second all more = (all .0, joined-bytes xs second (all .1) more)
 
-pub spelling-length : (s : State) → length (spelling s) ≡ stateBytes
-unfolding bytesOf
-spelling-length s = refl
+four-groups : (a b c d : List ℕ) → AllBytes a → AllBytes b → AllBytes c → AllBytes d → AllBytes (a ++ b ++ c ++ d)
+four-groups a b c d e f g h = joined-bytes (a ++ b ++ c) d (joined-bytes (a ++ b) c (joined-bytes a b e f) g) h
 
-pub spelling-bytes : (s : State) → Bytes (spelling s)
-unfolding bytesOf
-spelling-bytes s = each-byte (spelling s) (all-bytes (inOrder (wordsOf s)))
+pair-bytes : (first second : ℕ) → AllBytes (pair first second)
+pair-bytes first second = (omega arith, (omega arith, (omega arith, (omega arith, tt))))
+
+word-bytes : (word : ℕ) → AllBytes (lowFirst word)
+word-bytes word = (omega arith, (omega arith, (omega arith, (omega arith, tt))))
+
+level-byte : (level : Bool) → digitOf level < 2 ^ 8
+level-byte level = let h = level-small level in omega arith
+
+module _ (part : Part) (s : State) (e : widths part s ≡ true) (counts : Counted s) where
+  h : Small s
+  h = small part s e counts
+
+  digits-bytes : AllBytes (digitsOf s)
+  digits-bytes =
+      let v = view-small (s .write .view) in
+      let u = setup-small (s .read .setup) in
+      let m = mode-small (s .read .mode) in (
+        level-byte (s .started),
+        (
+          level-byte (s .write .level),
+          (
+            level-byte (s .read .level),
+            (
+              level-byte (s .write .wrapped),
+              (
+                level-byte (readRose (s .write .latest)),
+                (
+                  level-byte (writeRose (s .read .latest)),
+                  (
+                    level-byte (s .write .paf),
+                    (
+                      level-byte (s .read .pae),
+                      (
+                        level-byte (isSerial (s .offsets .method)),
+                        (
+                          level-byte (isM (s .offsets .next)),
+                          (
+                            level-byte (isM (s .reading .next)),
+                            (
+                              level-byte (showsOffset (s .reading .shows)),
+                              (omega arith, (omega arith, (omega arith, (h .count, tt)))),
+                            ),
+                          ),
+                        ),
+                      ),
+                    ),
+                  ),
+                ),
+              ),
+            ),
+          ),
+        ),
+      )
+
+  counts-bytes : AllBytes (countsOf s)
+  counts-bytes =
+      four-groups (pair (s .write .count .0) (s .write .first .0)) (pair (s .write .second .0) (readBefore (s .write .latest)))
+      (pair (s .read .count .0) (s .read .first .0)) (pair (s .read .second .0) (writeBefore (s .read .latest)))
+      (pair-bytes (s .write .count .0) (s .write .first .0)) (pair-bytes (s .write .second .0) (readBefore (s .write .latest)))
+      (pair-bytes (s .read .count .0) (s .read .first .0)) (pair-bytes (s .read .second .0) (writeBefore (s .read .latest)))
+
+  rest-bytes : AllBytes (restOf s)
+  rest-bytes =
+      four-groups (pair (s .offsets .n) (s .offsets .m)) (lowFirst (s .offsets .serial)) (pair (shownOffset (s .reading .shows)) 0) (lowFirst (s .read .output))
+      (pair-bytes (s .offsets .n) (s .offsets .m)) (word-bytes (s .offsets .serial)) (pair-bytes (shownOffset (s .reading .shows)) 0) (word-bytes (s .read .output))
+
+  pub spelling-bytes : Bytes (spelling s)
+  unfolding spelling
+  spelling-bytes = each-byte (spelling s) (joined-bytes (digitsOf s ++ countsOf s) (restOf s) (joined-bytes (digitsOf s) (countsOf s) digits-bytes counts-bytes) rest-bytes)
+
+  -- a state that passes the widths, its counts of 16 bits, is read back as it was written
+  pub read-back : Spelled (spelling s) s
+  unfolding spells
+  read-back = record { own = simp (own-digits s, own-blanks s h); state = state-again s h }
+
+power-up-widths : widths Idt72V255LA poweredUp ≡ true
+power-up-widths = tested-widths Idt72V255LA poweredUp (power-up-passes Idt72V255LA)
+
+pub power-up-read : Spelled (spelling poweredUp) poweredUp
+power-up-read = read-back Idt72V255LA poweredUp power-up-widths power-up-counted
+
+pub power-up-bytes : Bytes (spelling poweredUp)
+power-up-bytes = spelling-bytes Idt72V255LA poweredUp power-up-widths power-up-counted
+
+half-small : (bytes : List ℕ) (i : ℕ) → Bytes bytes → HalfWord (halfAt bytes i)
+unfolding halfAt
+half-small bytes i h = omega (arith, h i, h (i + 1))
+
+read-rise-small : (rose : Bool) (count : ℕ) → HalfWord count → ReadRemembered (readRiseOf rose count)
+read-rise-small true count h = h
+read-rise-small false count h = tt
+
+write-rise-small : (rose : Bool) (count : ℕ) → HalfWord count → WriteRemembered (writeRiseOf rose count)
+write-rise-small true count h = h
+write-rise-small false count h = tt
+
+pub counted-in : (bytes : List ℕ) → Bytes bytes → Counted (stateIn bytes)
+unfolding stateIn writeIn readIn
+counted-in bytes h = record {
+  write = half-small bytes 16 h;
+  writeFirst = half-small bytes 18 h;
+  writeSecond = half-small bytes 20 h;
+  writeLatest = read-rise-small (levelAt bytes 4) (halfAt bytes 22) (half-small bytes 22 h);
+  read = half-small bytes 24 h;
+  readFirst = half-small bytes 26 h;
+  readSecond = half-small bytes 28 h;
+  readLatest = write-rise-small (levelAt bytes 5) (halfAt bytes 30) (half-small bytes 30 h);
+}

@@ -1,14 +1,15 @@
 // Bench figures: the calls that a bench simulator in C makes.
-ghost use Rattle.chip.specs.State.{widths};
-ghost use Rattle.fifo_c.specs.Call.{Calls, GivesMemoryBytes, GivesStateBytes, PowersUp, Takes, answerBytes, memoryBytes, numberOf, taken};
-ghost use Rattle.fifo_c.specs.Spelling.{stateBytes};
+ghost use Rattle.chip.specs.Answer.{answerOf};
+ghost use Rattle.chip.specs.Quiet.{held};
+ghost use Rattle.fifo_c.specs.Call.{Calls, Gives, GivesMemoryBytes, GivesStateBytes, PowersUp, Ready, answerBytes, numberOf, taken, worked};
+ghost use Rattle.fifo_c.specs.Spelling.{spelling, spells, stateBytes, stateIn};
+ghost use Rattle.pins.specs.Record.{pinsOf};
 ghost use Rattle.fifo.specs.Run.{putAnswer};
 ghost use lib.ListN.{length};
 ghost use mathlib.Core.Bool.{true};
 ghost use mathlib.Core.Path.{_≡_};
 use super::state::STATE_BYTES;
 use super::verdict::Verdict;
-use chip::state::State;
 use counts::part::Lookup;
 use counts::part::Part;
 
@@ -16,7 +17,7 @@ use counts::part::Part;
 pub extern "C" fn fifo_state_bytes() -> u32
     ensures { λ r. ⌜ GivesStateBytes r ⌝ }
 {
-    36
+    48
 }
 
 #[no_mangle]
@@ -53,21 +54,61 @@ pub extern "C" fn fifo_sample(
     ensures { λ r. ⌜ Calls part (now («record» .entry)) (now (state .entry)) (now (memory .entry)) (now (answer .entry)) r (now (state .exit)) (now (memory .exit)) (now (answer .exit)) ⌝ }
 {
     let verdict = super::verdict::judge(part, record, state, memory.len(), answer.len());
-    let Verdict::Take(known, word, s) = verdict else {
+    let Verdict::Work(known, word) = verdict else {
         return number_of(verdict);
     };
-    take(known, word, s, state, memory, answer);
-    0
+    work(known, word, state, memory, answer)
 }
 
-// Everything is tested before this writes.
-fn take(part: Part, word: u32, s: State, state: &mut [u8], memory: &mut [u8], answer: &mut [u8])
-    requires { ⌜ widths part s ≡ true ⌝ }
-    requires { ⌜ length (now state) ≡ stateBytes ⌝ }
-    requires { ⌜ length (now memory) ≡ memoryBytes part ⌝ }
-    requires { ⌜ length (now answer) ≡ answerBytes ⌝ }
-    ensures { λ _. ⌜ Takes (taken part word s (now (memory .entry)) (now (answer .entry))) (now (state .exit)) (now (memory .exit)) (now (answer .exit)) ⌝ }
+// A sample is taken, held or turned away; every test is made before anything is written.
+fn work(part: Part, word: u32, state: &mut [u8], memory: &mut [u8], answer: &mut [u8]) -> u32
+    requires { ⌜ Ready part (now state) (length (now memory)) (length (now answer)) ⌝ }
+    ensures { λ r. ⌜ Gives (worked part word (now (state .entry)) (now (memory .entry)) (now (answer .entry))) r (now (state .exit)) (now (memory .exit)) (now (answer .exit)) ⌝ }
 {
+    if super::verdict::is_still(word, state) {
+        hold(part, word, state, answer);
+        0
+    } else {
+        take_or_turn_away(part, word, state, memory, answer)
+    }
+}
+
+// Only the clocks' levels change: the state need not be written anew.
+fn hold(part: Part, word: u32, state: &mut [u8], answer: &mut [u8])
+    requires { ⌜ length (now state) ≡ stateBytes ⌝ }
+    requires { ⌜ spells (now state) ≡ true ⌝ }
+    requires { ⌜ length (now answer) ≡ answerBytes ⌝ }
+    ensures spelled { λ _. ⌜ now (state .exit) ≡ spelling (held (pinsOf word) (stateIn (now (state .entry)))) ⌝ }
+    ensures answered { λ _. ⌜ now (answer .exit) ≡ putAnswer (now (answer .entry)) 0 (answerOf part (pinsOf word) (stateIn (now (state .entry)))) ⌝ }
+{
+    let p = pins::record::decode(word);
+    let s = super::state::read_state(state);
+    put_answer(answer, chip::answer::answer(part, p, s));
+    super::state::put_clocks(p.wclk, p.rclk, state);
+}
+
+fn take_or_turn_away(
+    part: Part,
+    word: u32,
+    state: &mut [u8],
+    memory: &mut [u8],
+    answer: &mut [u8],
+) -> u32
+    requires { ⌜ Ready part (now state) (length (now memory)) (length (now answer)) ⌝ }
+    ensures { λ r. ⌜ Gives (worked part word (now (state .entry)) (now (memory .entry)) (now (answer .entry))) r (now (state .exit)) (now (memory .exit)) (now (answer .exit)) ⌝ }
+{
+    let number = super::verdict::refuse(part, word, state);
+    if number == 0 {
+        take(part, word, state, memory, answer);
+    }
+    number
+}
+
+fn take(part: Part, word: u32, state: &mut [u8], memory: &mut [u8], answer: &mut [u8])
+    requires { ⌜ Ready part (now state) (length (now memory)) (length (now answer)) ⌝ }
+    ensures { λ _. ⌜ Gives (taken part word (stateIn (now (state .entry))) (now (memory .entry)) (now (answer .entry))) 0 (now (state .exit)) (now (memory .exit)) (now (answer .exit)) ⌝ }
+{
+    let s = super::state::read_state(state);
     let place = counts::round::read_place(part, s.read.count);
     let fetched = super::memory::fetch(memory, place);
     let advanced = chip::advance::advance(part, pins::record::decode(word), fetched, s);
@@ -91,7 +132,7 @@ fn number_of(verdict: Verdict) -> u32
     ensures { λ r. ⌜ r ≡ numberOf verdict ⌝ }
 {
     match verdict {
-        Verdict::Take(_, _, _) => 0,
+        Verdict::Work(_, _) => 0,
         Verdict::Refuse(number) => number,
     }
 }

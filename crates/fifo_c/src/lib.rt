@@ -3,7 +3,6 @@ pub mod bytes;
 pub mod call;
 pub mod marks;
 pub mod memory;
-pub mod spelling;
 pub mod state;
 pub mod verdict;
 pub mod wide;

@@ -1,39 +1,33 @@
-// The state's levels and enums as digits, and back.
-ghost use Prim.Native.Nat.{_<_, _≤_, _/_};
-ghost use Rattle.fifo_c.specs.Marks.{digitOf, isM, isSerial, levelOf, modeDigit, modeOf, nextOf, otherMarks, readBefore, readMarks, readRiseOf, setupDigit, setupOf, shownOffset, showsOf, showsOffset, viewDigit, viewOf, writeBefore, writeMarks, writeRiseOf};
+// The state's levels and enums as digits, each a byte, and back.
+ghost use Rattle.fifo_c.specs.Marks.{digitOf, isM, isSerial, levelOf, modeDigit, modeOf, nextOf, readBefore, readRiseOf, setupDigit, setupOf, shownOffset, showsOf, showsOffset, viewDigit, viewOf, writeBefore, writeRiseOf};
 ghost use Rattle.offsets.specs.Registers.{methodOf};
 ghost use Rattle.views.specs.Stages.{readRose, writeRose};
 ghost use mathlib.Core.Path.{_≡_};
-use chip::state::State;
 use counts::round::ReadCount;
 use counts::round::WriteCount;
 use offsets::reading::Shows;
 use offsets::registers::Method;
 use offsets::registers::Next;
 use sides::read::Mode;
-use sides::read::ReadSide;
-use sides::write::WriteSide;
 use views::retransmit::Setup;
 use views::retransmit::View;
 use views::stages::ReadRise;
 use views::stages::WriteRise;
 
-fn digit(level: bool) -> u32
-    ensures means { λ r. ⌜ r ≡ digitOf level ⌝ }
-    ensures within { λ r. ⌜ r ≤ 1 ⌝ }
+pub(crate) fn digit(level: bool) -> u8
+    ensures { λ r. ⌜ r ≡ digitOf level ⌝ }
 {
     if level { 1 } else { 0 }
 }
 
-pub(crate) fn level(marks: u32) -> bool
-    ensures { λ r. ⌜ r ≡ levelOf marks ⌝ }
+pub(crate) fn level(digit: u8) -> bool
+    ensures { λ r. ⌜ r ≡ levelOf digit ⌝ }
 {
-    marks % 2 == 1
+    digit % 2 == 1
 }
 
-fn view_digit(view: View) -> u32
-    ensures means { λ r. ⌜ r ≡ viewDigit view ⌝ }
-    ensures within { λ r. ⌜ r ≤ 2 ⌝ }
+pub(crate) fn view_digit(view: View) -> u8
+    ensures { λ r. ⌜ r ≡ viewDigit view ⌝ }
 {
     match view {
         View::Unseen => 0,
@@ -42,7 +36,7 @@ fn view_digit(view: View) -> u32
     }
 }
 
-pub(crate) fn view(digit: u32) -> View
+pub(crate) fn view(digit: u8) -> View
     ensures { λ r. ⌜ r ≡ viewOf digit ⌝ }
 {
     if digit == 0 {
@@ -54,9 +48,8 @@ pub(crate) fn view(digit: u32) -> View
     }
 }
 
-fn setup_digit(setup: Setup) -> u32
-    ensures means { λ r. ⌜ r ≡ setupDigit setup ⌝ }
-    ensures within { λ r. ⌜ r ≤ 2 ⌝ }
+pub(crate) fn setup_digit(setup: Setup) -> u8
+    ensures { λ r. ⌜ r ≡ setupDigit setup ⌝ }
 {
     match setup {
         Setup::Over => 0,
@@ -65,7 +58,7 @@ fn setup_digit(setup: Setup) -> u32
     }
 }
 
-pub(crate) fn setup(digit: u32) -> Setup
+pub(crate) fn setup(digit: u8) -> Setup
     ensures { λ r. ⌜ r ≡ setupOf digit ⌝ }
 {
     if digit == 0 {
@@ -77,17 +70,16 @@ pub(crate) fn setup(digit: u32) -> Setup
     }
 }
 
-fn mode_digit(mode: Mode) -> u32
-    ensures means { λ r. ⌜ r ≡ modeDigit mode ⌝ }
-    ensures within { λ r. ⌜ r ≤ 2 ⌝ }
+pub(crate) fn mode_digit(mode: Mode) -> u8
+    ensures { λ r. ⌜ r ≡ modeDigit mode ⌝ }
 {
     match mode {
         Mode::Standard => 0,
-        Mode::Fwft { untaken } => 1 + digit(untaken),
+        Mode::Fwft { untaken } => if untaken { 2 } else { 1 },
     }
 }
 
-pub(crate) fn mode(digit: u32) -> Mode
+pub(crate) fn mode(digit: u8) -> Mode
     ensures { λ r. ⌜ r ≡ modeOf digit ⌝ }
 {
     if digit == 0 {
@@ -99,7 +91,7 @@ pub(crate) fn mode(digit: u32) -> Mode
     }
 }
 
-fn is_serial(method: Method) -> bool
+pub(crate) fn is_serial(method: Method) -> bool
     ensures { λ r. ⌜ r ≡ isSerial method ⌝ }
 {
     match method {
@@ -118,7 +110,7 @@ pub(crate) fn method(serial: bool) -> Method
     }
 }
 
-fn is_m(next: Next) -> bool
+pub(crate) fn is_m(next: Next) -> bool
     ensures { λ r. ⌜ r ≡ isM next ⌝ }
 {
     match next {
@@ -133,7 +125,7 @@ pub(crate) fn next(second: bool) -> Next
     if second { Next::M } else { Next::N }
 }
 
-fn has_read_rise(latest: ReadRise) -> bool
+pub(crate) fn has_read_rise(latest: ReadRise) -> bool
     ensures { λ r. ⌜ r ≡ readRose latest ⌝ }
 {
     match latest {
@@ -161,7 +153,7 @@ pub(crate) fn read_rise(rose: bool, count: u16) -> ReadRise
     }
 }
 
-fn has_write_rise(latest: WriteRise) -> bool
+pub(crate) fn has_write_rise(latest: WriteRise) -> bool
     ensures { λ r. ⌜ r ≡ writeRose latest ⌝ }
 {
     match latest {
@@ -189,7 +181,7 @@ pub(crate) fn write_rise(rose: bool, count: u16) -> WriteRise
     }
 }
 
-fn has_offset(shows: Shows) -> bool
+pub(crate) fn has_offset(shows: Shows) -> bool
     ensures { λ r. ⌜ r ≡ showsOffset shows ⌝ }
 {
     match shows {
@@ -215,48 +207,4 @@ pub(crate) fn shows(offset: bool, shown: u16) -> Shows
     } else {
         Shows::Register
     }
-}
-
-pub(crate) fn write_marks(w: WriteSide) -> u32
-    ensures means { λ r. ⌜ r ≡ writeMarks w ⌝ }
-    ensures within { λ r. ⌜ r < 256 ⌝ }
-{
-    let latest = w.latest;
-    let view = w.view;
-    digit(w.level)
-        + 2 * digit(w.wrapped)
-        + 4 * digit(has_read_rise(latest))
-        + 8 * digit(w.paf)
-        + 16 * view_digit(view)
-}
-
-pub(crate) fn read_marks(r: ReadSide) -> u32
-    ensures means { λ q. ⌜ q ≡ readMarks r ⌝ }
-    ensures within { λ q. ⌜ q < 256 ⌝ }
-{
-    let latest = r.latest;
-    let setup = r.setup;
-    let mode = r.mode;
-    digit(r.level)
-        + 2 * digit(has_write_rise(latest))
-        + 4 * digit(r.pae)
-        + 8 * setup_digit(setup)
-        + 32 * mode_digit(mode)
-}
-
-pub(crate) fn other_marks(s: State) -> u32
-    ensures means { λ r. ⌜ r ≡ otherMarks s ⌝ }
-    ensures within { λ r. ⌜ r < 256 ⌝ }
-{
-    let offsets = s.offsets;
-    let reading = s.reading;
-    let method = offsets.method;
-    let loaded = offsets.next;
-    let read = reading.next;
-    let shows = reading.shows;
-    digit(s.started)
-        + 2 * digit(is_serial(method))
-        + 4 * digit(is_m(loaded))
-        + 8 * digit(is_m(read))
-        + 16 * digit(has_offset(shows))
 }

@@ -1,66 +1,270 @@
-// The state in lent bytes.
-ghost use Rattle.fifo_c.specs.Spelling.{spelling, spelt, stateBytes, wordsAt};
+// The state in lent bytes: how it is read, whether bytes spell one at all, and how it is written.
+ghost use Prim.Native.Nat.{_+_, _<_};
+ghost use Rattle.fifo_c.specs.Spelling.{blankElsewhere, fourLevels, levelAt, offsetsIn, putClocks, putCounts, putEnums, putFourLevels, putLevels, putRest, readIn, readingIn, spelledDigits, spelling, spells, stateBytes, stateIn, writeIn};
 ghost use lib.ListN.{length};
 ghost use mathlib.Core.Path.{_≡_};
+use super::bytes::half_at;
 use super::bytes::low_first_at;
+use super::bytes::put_four;
 use super::bytes::put_low_first;
-use super::spelling::Words;
-use super::spelling::is_same;
-use super::spelling::state_of;
-use super::spelling::words_of;
+use super::bytes::put_pair;
+use super::marks;
 use chip::state::State;
+use counts::round::ReadCount;
+use counts::round::WriteCount;
+use offsets::reading::Reading;
+use offsets::registers::Offsets;
+use sides::read::ReadSide;
+use sides::write::WriteSide;
 
-// Nine words of four bytes.
-pub(crate) const STATE_BYTES: usize = 36;
+// Sixteen digits, ten numbers of 16 bits and three of 32.
+pub(crate) const STATE_BYTES: usize = 48;
 
-// The state that bytes spell, if they spell one.
-pub enum Spelt {
-    As(State),
-    NoState,
+pub(crate) fn read_state(bytes: &[u8]) -> State
+    requires { ⌜ length (now bytes) ≡ stateBytes ⌝ }
+    ensures { λ r. ⌜ r ≡ stateIn (now (bytes .entry)) ⌝ }
+{
+    let write = read_write_side(bytes);
+    let read = read_read_side(bytes);
+    let offsets = read_offsets(bytes);
+    let reading = read_reading(bytes);
+    State {
+        started: level_at(bytes, 0),
+        write: write,
+        read: read,
+        offsets: offsets,
+        reading: reading,
+    }
 }
 
-pub(crate) fn read_state(bytes: &[u8]) -> Spelt
+fn read_write_side(bytes: &[u8]) -> WriteSide
     requires { ⌜ length (now bytes) ≡ stateBytes ⌝ }
-    ensures { λ r. ⌜ r ≡ spelt (now (bytes .entry)) ⌝ }
+    ensures { λ r. ⌜ r ≡ writeIn (now (bytes .entry)) ⌝ }
 {
-    let words = words_at(bytes);
-    let state = state_of(words);
-    if is_same(words_of(state), words) {
-        Spelt::As(state)
-    } else {
-        Spelt::NoState
+    let latest = marks::read_rise(level_at(bytes, 4), half_at(bytes, 22));
+    let view = marks::view(bytes[12]);
+    WriteSide {
+        level: level_at(bytes, 1),
+        count: WriteCount(half_at(bytes, 16)),
+        wrapped: level_at(bytes, 3),
+        first: ReadCount(half_at(bytes, 18)),
+        second: ReadCount(half_at(bytes, 20)),
+        latest: latest,
+        view: view,
+        paf: level_at(bytes, 6),
     }
+}
+
+fn read_read_side(bytes: &[u8]) -> ReadSide
+    requires { ⌜ length (now bytes) ≡ stateBytes ⌝ }
+    ensures { λ r. ⌜ r ≡ readIn (now (bytes .entry)) ⌝ }
+{
+    let latest = marks::write_rise(level_at(bytes, 5), half_at(bytes, 30));
+    let setup = marks::setup(bytes[13]);
+    let mode = marks::mode(bytes[14]);
+    ReadSide {
+        level: level_at(bytes, 2),
+        count: ReadCount(half_at(bytes, 24)),
+        first: WriteCount(half_at(bytes, 26)),
+        second: WriteCount(half_at(bytes, 28)),
+        latest: latest,
+        setup: setup,
+        pae: level_at(bytes, 7),
+        mode: mode,
+        output: low_first_at(bytes, 44),
+    }
+}
+
+fn read_offsets(bytes: &[u8]) -> Offsets
+    requires { ⌜ length (now bytes) ≡ stateBytes ⌝ }
+    ensures { λ r. ⌜ r ≡ offsetsIn (now (bytes .entry)) ⌝ }
+{
+    let method = marks::method(level_at(bytes, 8));
+    let next = marks::next(level_at(bytes, 9));
+    Offsets {
+        n: half_at(bytes, 32),
+        m: half_at(bytes, 34),
+        method: method,
+        next: next,
+        serial: low_first_at(bytes, 36),
+        count: bytes[15],
+    }
+}
+
+fn read_reading(bytes: &[u8]) -> Reading
+    requires { ⌜ length (now bytes) ≡ stateBytes ⌝ }
+    ensures { λ r. ⌜ r ≡ readingIn (now (bytes .entry)) ⌝ }
+{
+    let next = marks::next(level_at(bytes, 10));
+    let shows = marks::shows(level_at(bytes, 11), half_at(bytes, 40));
+    Reading {
+        next: next,
+        shows: shows,
+    }
+}
+
+fn level_at(bytes: &[u8], at: usize) -> bool
+    requires { ⌜ at < length (now bytes) ⌝ }
+    ensures { λ r. ⌜ r ≡ levelAt (now (bytes .entry)) at ⌝ }
+{
+    marks::level(bytes[at])
+}
+
+pub(crate) fn spells_state(bytes: &[u8]) -> bool
+    requires { ⌜ length (now bytes) ≡ stateBytes ⌝ }
+    ensures { λ r. ⌜ r ≡ spells (now (bytes .entry)) ⌝ }
+{
+    are_digits(bytes) & is_blank_elsewhere(bytes)
+}
+
+fn are_digits(bytes: &[u8]) -> bool
+    requires { ⌜ length (now bytes) ≡ stateBytes ⌝ }
+    ensures { λ r. ⌜ r ≡ spelledDigits (now (bytes .entry)) ⌝ }
+{
+    are_levels(bytes, 0)
+        & are_levels(bytes, 4)
+        & are_levels(bytes, 8)
+        & (bytes[12] < 3)
+        & (bytes[13] < 3)
+        & (bytes[14] < 3)
+}
+
+// Four at once, as one word: a test of each byte by itself takes four times as long.
+fn are_levels(bytes: &[u8], at: usize) -> bool
+    requires { ⌜ at + 3 < length (now bytes) ⌝ }
+    ensures { λ r. ⌜ r ≡ fourLevels (now (bytes .entry)) at ⌝ }
+{
+    let four = low_first_at(bytes, at);
+    (four % 256 < 2)
+        & (four / 256 % 256 < 2)
+        & (four / 65536 % 256 < 2)
+        & (four / 16777216 % 256 < 2)
+}
+
+fn is_blank_elsewhere(bytes: &[u8]) -> bool
+    requires { ⌜ length (now bytes) ≡ stateBytes ⌝ }
+    ensures { λ r. ⌜ r ≡ blankElsewhere (now (bytes .entry)) ⌝ }
+{
+    (level_at(bytes, 4) | (half_at(bytes, 22) == 0))
+        & (level_at(bytes, 5) | (half_at(bytes, 30) == 0))
+        & (level_at(bytes, 11) | (half_at(bytes, 40) == 0))
+        & (half_at(bytes, 42) == 0)
 }
 
 pub(crate) fn write_state(state: State, bytes: &mut [u8])
     requires { ⌜ length (now bytes) ≡ stateBytes ⌝ }
     ensures { λ _. ⌜ now (bytes .exit) ≡ spelling state ⌝ }
 {
-    let words = words_of(state);
-    put_low_first(bytes, 0, words.marks);
-    put_low_first(bytes, 4, words.write);
-    put_low_first(bytes, 8, words.write_second);
-    put_low_first(bytes, 12, words.read);
-    put_low_first(bytes, 16, words.read_second);
-    put_low_first(bytes, 20, words.offsets);
-    put_low_first(bytes, 24, words.serial);
-    put_low_first(bytes, 28, words.shown);
-    put_low_first(bytes, 32, words.output);
+    put_levels(state, bytes);
+    put_enums(state, bytes);
+    put_counts(state, bytes);
+    put_rest(state, bytes);
 }
 
-fn words_at(bytes: &[u8]) -> Words
+fn put_levels(s: State, bytes: &mut [u8])
     requires { ⌜ length (now bytes) ≡ stateBytes ⌝ }
-    ensures { λ r. ⌜ r ≡ wordsAt (now (bytes .entry)) ⌝ }
+    ensures { λ _. ⌜ now (bytes .exit) ≡ putLevels s (now (bytes .entry)) ⌝ }
 {
-    Words {
-        marks: low_first_at(bytes, 0),
-        write: low_first_at(bytes, 4),
-        write_second: low_first_at(bytes, 8),
-        read: low_first_at(bytes, 12),
-        read_second: low_first_at(bytes, 16),
-        offsets: low_first_at(bytes, 20),
-        serial: low_first_at(bytes, 24),
-        shown: low_first_at(bytes, 28),
-        output: low_first_at(bytes, 32),
-    }
+    let write = s.write;
+    let read = s.read;
+    let offsets = s.offsets;
+    let reading = s.reading;
+    let read_rise = write.latest;
+    let write_rise = read.latest;
+    let method = offsets.method;
+    let to_load = offsets.next;
+    let to_read = reading.next;
+    let shows = reading.shows;
+    put_four_levels(bytes, 0, s.started, write.level, read.level, write.wrapped);
+    put_four_levels(
+        bytes,
+        4,
+        marks::has_read_rise(read_rise),
+        marks::has_write_rise(write_rise),
+        write.paf,
+        read.pae,
+    );
+    put_four_levels(
+        bytes,
+        8,
+        marks::is_serial(method),
+        marks::is_m(to_load),
+        marks::is_m(to_read),
+        marks::has_offset(shows),
+    );
+}
+
+fn put_four_levels(
+    bytes: &mut [u8],
+    at: usize,
+    first: bool,
+    second: bool,
+    third: bool,
+    fourth: bool,
+)
+    requires { ⌜ at + 3 < length (now bytes) ⌝ }
+    ensures { λ _. ⌜ now (bytes .exit) ≡ putFourLevels (now (bytes .entry)) at first second third fourth ⌝ }
+{
+    put_four(
+        bytes,
+        at,
+        marks::digit(first),
+        marks::digit(second),
+        marks::digit(third),
+        marks::digit(fourth),
+    );
+}
+
+fn put_enums(s: State, bytes: &mut [u8])
+    requires { ⌜ length (now bytes) ≡ stateBytes ⌝ }
+    ensures { λ _. ⌜ now (bytes .exit) ≡ putEnums s (now (bytes .entry)) ⌝ }
+{
+    let write = s.write;
+    let read = s.read;
+    let view = write.view;
+    let setup = read.setup;
+    let mode = read.mode;
+    put_four(
+        bytes,
+        12,
+        marks::view_digit(view),
+        marks::setup_digit(setup),
+        marks::mode_digit(mode),
+        s.offsets.count,
+    );
+}
+
+fn put_counts(s: State, bytes: &mut [u8])
+    requires { ⌜ length (now bytes) ≡ stateBytes ⌝ }
+    ensures { λ _. ⌜ now (bytes .exit) ≡ putCounts s (now (bytes .entry)) ⌝ }
+{
+    let write = s.write;
+    let read = s.read;
+    let read_rise = write.latest;
+    let write_rise = read.latest;
+    put_pair(bytes, 16, s.write.count.0, s.write.first.0);
+    put_pair(bytes, 20, s.write.second.0, marks::read_before(read_rise));
+    put_pair(bytes, 24, s.read.count.0, s.read.first.0);
+    put_pair(bytes, 28, s.read.second.0, marks::write_before(write_rise));
+}
+
+fn put_rest(s: State, bytes: &mut [u8])
+    requires { ⌜ length (now bytes) ≡ stateBytes ⌝ }
+    ensures { λ _. ⌜ now (bytes .exit) ≡ putRest s (now (bytes .entry)) ⌝ }
+{
+    let reading = s.reading;
+    let shows = reading.shows;
+    put_pair(bytes, 32, s.offsets.n, s.offsets.m);
+    put_low_first(bytes, 36, s.offsets.serial);
+    put_pair(bytes, 40, marks::shown_offset(shows), 0);
+    put_low_first(bytes, 44, s.read.output);
+}
+
+// All that a sample changes in which no clock rises.
+pub(crate) fn put_clocks(wclk: bool, rclk: bool, bytes: &mut [u8])
+    requires { ⌜ length (now bytes) ≡ stateBytes ⌝ }
+    ensures { λ _. ⌜ now (bytes .exit) ≡ putClocks wclk rclk (now (bytes .entry)) ⌝ }
+{
+    bytes[1] = marks::digit(wclk);
+    bytes[2] = marks::digit(rclk);
 }

@@ -1,17 +1,17 @@
-// What is turned away, for the C call: every check, before anything is written.
-ghost use Rattle.fifo_c.specs.Call.{judged, onRecord, onSpelt, roomy, verdictOf};
-ghost use Rattle.fifo_c.specs.Spelling.{spelt, stateBytes};
+// What is turned away, for the C call: 1 to 4 in a verdict, and the refusals of a record of four bytes.
+ghost use Rattle.fifo.specs.Sample.{recordRefusal};
+ghost use Rattle.fifo.specs.Still.{still};
+ghost use Rattle.fifo_c.specs.Call.{judged, onRecord, onState, roomy};
+ghost use Rattle.fifo_c.specs.Spelling.{stateBytes, stateIn};
 ghost use lib.ListN.{length};
 ghost use mathlib.Core.Path.{_≡_};
 use super::state::STATE_BYTES;
-use super::state::Spelt;
-use chip::state::State;
 use counts::part::Lookup;
 use counts::part::Part;
 
-// A record to be taken by a part in a state, or a refusal's number.
+// A record of four bytes for a part and a state that have passed their tests, or a refusal's number.
 pub enum Verdict {
-    Take(Part, u32, State),
+    Work(Part, u32),
     Refuse(u32),
 }
 
@@ -40,41 +40,39 @@ fn is_roomy(part: Part, state: usize, memory: usize, answer: usize) -> bool
 
 fn judge_state(part: Part, record: &[u8], state: &[u8]) -> Verdict
     requires { ⌜ length (now state) ≡ stateBytes ⌝ }
-    ensures { λ r. ⌜ r ≡ onSpelt part (now («record» .entry)) (spelt (now (state .entry))) ⌝ }
+    ensures { λ r. ⌜ r ≡ onState part (now («record» .entry)) (now (state .entry)) ⌝ }
 {
-    let spelt = super::state::read_state(state);
-    let Spelt::As(s) = spelt else {
-        return Verdict::Refuse(3);
-    };
-    if chip::state::passes_test(part, s) {
-        judge_record(part, record, s)
+    let spelled = super::state::spells_state(state);
+    let passed = chip::state::passes_test(part, super::state::read_state(state));
+    if spelled & passed {
+        judge_record(part, record)
     } else {
         Verdict::Refuse(3)
     }
 }
 
-fn judge_record(part: Part, record: &[u8], s: State) -> Verdict
-    ensures { λ r. ⌜ r ≡ onRecord part (now («record» .entry)) s ⌝ }
+fn judge_record(part: Part, record: &[u8]) -> Verdict
+    ensures { λ r. ⌜ r ≡ onRecord part (now («record» .entry)) ⌝ }
 {
     if record.len() == 4 {
-        let word = super::bytes::word_at(record, 0);
-        settle(
-            super::wide::wide_byte(fifo::sample::refuse_record(part, word, s)),
-            part,
-            word,
-            s,
-        )
+        Verdict::Work(part, super::bytes::word_at(record, 0))
     } else {
         Verdict::Refuse(4)
     }
 }
 
-fn settle(number: u32, part: Part, word: u32, s: State) -> Verdict
-    ensures { λ r. ⌜ r ≡ verdictOf number part word s ⌝ }
+// Neither of these two takes the state apart for the other: a field that one does not need is not read for it.
+pub(crate) fn is_still(word: u32, state: &[u8]) -> bool
+    requires { ⌜ length (now state) ≡ stateBytes ⌝ }
+    ensures { λ r. ⌜ r ≡ still word (stateIn (now (state .entry))) ⌝ }
 {
-    if number == 0 {
-        Verdict::Take(part, word, s)
-    } else {
-        Verdict::Refuse(number)
-    }
+    fifo::sample::is_still(word, super::state::read_state(state))
+}
+
+// 4 on bit 18, and 5 to 10.
+pub(crate) fn refuse(part: Part, word: u32, state: &[u8]) -> u32
+    requires { ⌜ length (now state) ≡ stateBytes ⌝ }
+    ensures { λ r. ⌜ r ≡ recordRefusal part word (stateIn (now (state .entry))) ⌝ }
+{
+    super::wide::wide_byte(fifo::sample::refuse_record(part, word, super::state::read_state(state)))
 }

@@ -19,16 +19,15 @@ use Rattle.chip.specs.State.{passes}
 use Rattle.counts.specs.declared.part.Part.{Part}
 use Rattle.counts.specs.Part.{depthOf, numberOf}
 use Rattle.counts.specs.PartLaws.{own-number}
-use Rattle.fifo_c.specs.declared.state.Spelt.the-variants.{As}
 use Rattle.fifo_c.specs.declared.verdict.Verdict.{Verdict}
-use Rattle.fifo_c.specs.declared.verdict.Verdict.the-variants.{Take, Refuse}
+use Rattle.fifo_c.specs.declared.verdict.Verdict.the-variants.{Work, Refuse}
 use Rattle.fifo_c.specs.AsSample.{AsSample, call-is-sample}
 use Rattle.fifo_c.specs.Bytes.{wordsIn}
 use Rattle.fifo_c.specs.BytesLaws.{put-length}
-use Rattle.fifo_c.specs.Call.{answerBytes, byVerdict, called, fetchedFrom, judged, memoryBytes, onRecord, powered, roomy, storedIn, taken, wordSize}
-use Rattle.fifo_c.specs.CallLaws.{cleared, roomy-lengths}
-use Rattle.fifo_c.specs.Spelling.{spelt, stateBytes}
-use Rattle.fifo_c.specs.SpellingLaws.{Bytes, power-up-read, spelling-bytes, spelling-length}
+use Rattle.fifo_c.specs.Call.{answerBytes, byVerdict, called, decided, fetchedFrom, judged, memoryBytes, onRecord, onState, powered, roomy, storedIn, taken, wordSize, worked}
+use Rattle.fifo_c.specs.CallLaws.{cleared}
+use Rattle.fifo_c.specs.Spelling.{stateBytes, stateIn}
+use Rattle.fifo_c.specs.SpellingLaws.{Bytes, Spelled, power-up-bytes, power-up-read, spelling-length}
 use Rattle.fifo.specs.declared.sample.Outcome.{Outcome}
 use Rattle.fifo.specs.Run.{answersAfter, putAnswer}
 use Rattle.fifo.specs.Sample.{recordRefusal}
@@ -46,14 +45,21 @@ stored-length : (store : Store) (memory : List ℕ) → length (storedIn store m
 stored-length Keep memory = refl
 stored-length (Put place word) memory = put-length memory (place * wordSize) word
 
-length-by : (v : Verdict) (state memory answer : List ℕ) → length (byVerdict v state memory answer .memory) ≡ length memory
+length-decided : (free : Bool) (number : ℕ) (part : Part) (x : ℕ) (state memory answer : List ℕ) → length (decided free number part x state memory answer .memory) ≡ length memory
 unfolding taken
-length-by (Take part x s) state memory answer = stored-length (advanced part (pinsOf x) (fetchedFrom part s memory) s .store) memory
+length-decided true number part x state memory answer =
+    stored-length (advanced part (pinsOf x) (fetchedFrom part (stateIn state) memory) (stateIn state) .store) memory
+length-decided false number part x state memory answer = refl
+
+length-by : (v : Verdict) (state memory answer : List ℕ) → length (byVerdict v state memory answer .memory) ≡ length memory
+unfolding worked
+length-by (Work part x) state memory answer =
+    let number = recordRefusal part x (stateIn state) in length-decided (eqb number 0) number part x state memory answer
 length-by (Refuse number) state memory answer = refl
 
 -- the buffers spell the moment
 pub record Spells (part : Part) (b : Buffers) (m : Moment) : Type 0 where
-  pub spells : spelt (b .state) ≡ As (m .state)
+  pub spells : Spelled (b .state) (m .state)
   pub spelled : length (b .state) ≡ stateBytes
   pub bytes : Bytes (b .state)
   pub whole : length (b .memory) ≡ memoryBytes part
@@ -63,10 +69,9 @@ module _ (part : Part) where
   module _ (b : Buffers) (a : Asked) where
     moved-by : (v : Verdict) → judged (numberOf part) (a .bytes) (b .state) (length (b .memory)) (length (a .room)) ≡ v → isSample a ≡ false
         → (byVerdict v (b .state) (b .memory) (a .room) .state ≡ b .state) × (byVerdict v (b .state) (b .memory) (a .room) .memory ≡ b .memory)
-    moved-by (Take known x s) e f =
-        let c = cleared (numberOf part) (a .bytes) (b .state) (length (b .memory)) (length (a .room)) known x s e in
-        let l = roomy-lengths known (length (b .state)) (length (b .memory)) (length (a .room)) (c .room) in
-        absurd (true≢false (sym (simp (eq-eqb (length (a .bytes)) wordSize (c .whole), eq-eqb (length (a .room)) answerBytes (l .answer))) ∙ f))
+    moved-by (Work known x) e f =
+        let c = cleared (numberOf part) (a .bytes) (b .state) (length (b .memory)) (length (a .room)) known x e in
+        absurd (true≢false (sym (simp (eq-eqb (length (a .bytes)) wordSize (c .whole), eq-eqb (length (a .room)) answerBytes (c .ready .lengths .answer))) ∙ f))
     moved-by (Refuse number) e f = (refl, refl)
 
     -- a call that is no sample moves nothing
@@ -76,30 +81,34 @@ module _ (part : Part) where
         let same = moved-by (judged (numberOf part) (a .bytes) (b .state) (length (b .memory)) (length (a .room))) refl f in
         rw (same .0, same .1)
 
-    not-three-by : (room whole free : Bool) (x : ℕ) (s : State) (number : ℕ) → number ≢ 3
-        → byVerdict (cond room (cond whole (cond free (Take part x s) (Refuse number)) (Refuse 4)) (Refuse 2)) (b .state) (b .memory) (a .room) .code ≢ 3
+    decided-not-three : (free : Bool) (number x : ℕ) → number ≢ 3 → decided free number part x (b .state) (b .memory) (a .room) .code ≢ 3
     unfolding taken
-    not-three-by true true true x s number h e = omega arith
-    not-three-by true true false x s number h e = h e
-    not-three-by true false free x s number h e = omega arith
-    not-three-by false whole free x s number h e = omega arith
+    decided-not-three true number x h e = omega arith
+    decided-not-three false number x h e = h e
+
+    not-three-by : (room whole : Bool) (x : ℕ) → worked part x (b .state) (b .memory) (a .room) .code ≢ 3
+        → byVerdict (cond room (cond whole (Work part x) (Refuse 4)) (Refuse 2)) (b .state) (b .memory) (a .room) .code ≢ 3
+    not-three-by true true x h e = h e
+    not-three-by true false x h e = omega arith
+    not-three-by false whole x h e = omega arith
 
     -- whatever record and room it is handed: 2 and 4 are all that their lengths can bring
     pub call-not-three : (m : Moment) → Spells part b m → passes part (m .state) ≡ true → callOf part b a .code ≢ 3
-    unfolding callOf called judged onRecord
+    unfolding callOf called judged onState onRecord worked
     call-not-three m g passed =
         let x = wordAt (a .bytes) 0 in
-        rw (own-number part, g .spells, passed)
-        (not-three-by (roomy part (length (b .state)) (length (b .memory)) (length (a .room))) (eqb (length (a .bytes)) wordSize)
-        (eqb (recordRefusal part x (m .state)) 0) x (m .state) (recordRefusal part x (m .state)) (not-three part x (m .state)))
+        let number = recordRefusal part x (stateIn (b .state)) in
+        rw (own-number part, g .spells .own, subst (λ (s : State). passes part s ≡ true) (sym (g .spells .state)) passed)
+        (not-three-by (roomy part (length (b .state)) (length (b .memory)) (length (a .room))) (eqb (length (a .bytes)) wordSize) x
+        (decided-not-three (eqb number 0) number x (not-three part x (stateIn (b .state)))))
 
     module _ (m : Moment) (g : Spells part b m) (is : isSample a ≡ true) where
       pub as-outcome : AsSample (callOf part b a) (outcome part m (wordAt (a .bytes) 0)) (a .room)
       unfolding callOf outcome
       as-outcome =
           let both = and-eq-true-iff (eqb (length (a .bytes)) wordSize) (eqb (length (a .room)) answerBytes) .0 is in
-          rw (← g .words)
-          (call-is-sample (numberOf part) (a .bytes) (b .state) (b .memory) (a .room) (m .state) (g .spells) (g .spelled) (g .bytes)
+          rw (← g .words, ← g .spells .state)
+          (call-is-sample (numberOf part) (a .bytes) (b .state) (b .memory) (a .room) (g .spells .own) (g .spelled) (g .bytes)
           (eqb-true _ _ (both .0)) (omega (arith, g .whole)) (eqb-true _ _ (both .1)))
 
       -- the answer found in the room of a call that is taken
@@ -120,7 +129,7 @@ module _ (part : Part) where
       spells-next = record {
         spells = as-outcome .state;
         spelled = rw (as-outcome .spelled) (spelling-length (outcome part m (wordAt (a .bytes) 0) .sampled .state));
-        bytes = subst Bytes (sym (as-outcome .spelled)) (spelling-bytes (outcome part m (wordAt (a .bytes) 0) .sampled .state));
+        bytes = as-outcome .bytes;
         whole = length-by (judged (numberOf part) (a .bytes) (b .state) (length (b .memory)) (length (a .room))) (b .state) (b .memory) (a .room)
             ∙ g .whole;
         words = as-outcome .words;
@@ -148,7 +157,7 @@ module _ (part : Part) where
   powered-spells state memory room whole = rw (eq-eqb (length state) stateBytes room) (record {
     spells = power-up-read;
     spelled = spelling-length poweredUp;
-    bytes = spelling-bytes poweredUp;
+    bytes = power-up-bytes;
     whole = whole;
     words = refl;
   })

@@ -21,10 +21,10 @@ use Rattle.fifo.specs.declared.run.Ran.{Ran}
 use Rattle.fifo.specs.declared.sample.Outcome.the-variants.{Taken}
 use Rattle.fifo.specs.Run.{Ended, ranOf}
 use Rattle.fifo.specs.Sample.{numberOf}
-use Rattle.fifo_c.specs.declared.state.Spelt.the-variants.{As}
 use Rattle.fifo_c.specs.Bytes.{wordsIn}
 use Rattle.fifo_c.specs.Call.{memoryBytes}
-use Rattle.fifo_c.specs.Spelling.{spelt, stateBytes}
+use Rattle.fifo_c.specs.Spelling.{stateBytes}
+use Rattle.fifo_c.specs.SpellingLaws.{Spelled}
 use Rattle.pins.specs.Record.{bit, pinsOf}
 use Rattle.pins.specs.Trace.{wordAt}
 use Rattle.history.specs.AnswerLaws.{answers-taken}
@@ -206,7 +206,7 @@ module _ (part : Part) (state memory : List ℕ) (room : length state ≡ stateB
   calls-spell : Spells part buffers there
   calls-spell = calls-lead part calls (poweredOn state memory) (powerUp (wordsIn memory)) (powered-spells part state memory room whole)
 
-  pub call-leads : (spelt (buffers .state) ≡ As (there .state)) × (wordsIn (buffers .memory) ≡ there .memory)
+  pub call-leads : Spelled (buffers .state) (there .state) × (wordsIn (buffers .memory) ≡ there .memory)
   call-leads = (calls-spell .spells, calls-spell .words)
 
   pub call-kept : Kept part there

@@ -1,20 +1,11 @@
-use native.Mathlib.Omega.{arith}
-use lib.ListN.{length-set}
 use Rattle.fifo_c.specs.Spelling.{putLowFirst}
-use mathlib.Core.Path.{refl}
 use borrow.Author.Needs.{needs}
 use Rattle.fifo_c.proofs.bytes.put_low_first.Statement.{statement}
 use Rattle.fifo_c.proofs.bytes.put_low_first.Tie as tie
 
-slice-write-bytes-2 : tie.Need-slice-write-bytes-2
-slice-write-bytes-2 c = simp length-set (omega arith)
-
-slice-write-bytes-3 : tie.Need-slice-write-bytes-3
-slice-write-bytes-3 c = simp length-set (omega arith)
-
 returns : tie.Need-returns
 unfolding putLowFirst
-returns c = refl
+returns c = c .before .before .put-four .ensures
 
 pub put-low-first-spec : {M : Type 1} → statement M
 put-low-first-spec =
@@ -24,12 +15,6 @@ put-low-first-spec =
     (λ c. search needs)
     (λ c. search needs)
     (λ c. search needs)
-    slice-write-bytes-2
-    (λ c. search needs)
-    (λ c. search needs)
-    slice-write-bytes-3
-    (λ c. search needs)
-    (λ c. search needs)
-    (λ c. search needs)
+    (λ c κs. search needs)
     (λ c. search needs)
     returns)

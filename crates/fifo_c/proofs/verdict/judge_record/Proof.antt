@@ -6,19 +6,11 @@ use Rattle.fifo_c.proofs.verdict.judge_record.Tie as tie
 
 returns : tie.Need-returns
 unfolding onRecord
-returns c = simp (c .settle .ensures, c .before .wide-byte .ensures .0, c .before .before .refuse-record .ensures, c .before .before .before .word-at .ensures, eq-eqb _ _ (c .before .before .before .before .if1 .taken))
+returns c = simp (c .word-at .ensures, eq-eqb _ _ (c .before .if1 .taken))
 
 returns-2 : tie.Need-returns-2
 unfolding onRecord
 returns-2 c = simp (ne-eqb _ _ (c .if1 .left))
 
 pub judge-record-spec : {M : Type 1} → statement M
-judge-record-spec =
-    tie.close
-    (tie.spec
-    (λ c κs. search needs)
-    (λ c κs. search needs)
-    (λ c κs. search needs)
-    (λ c κs. search needs)
-    returns
-    returns-2)
+judge-record-spec = tie.close (tie.spec (λ c κs. search needs) returns returns-2)

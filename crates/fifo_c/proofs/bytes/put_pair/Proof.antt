@@ -1,0 +1,20 @@
+use Rattle.fifo_c.specs.Spelling.{putPair}
+use borrow.Author.Needs.{needs}
+use Rattle.fifo_c.proofs.bytes.put_pair.Statement.{statement}
+use Rattle.fifo_c.proofs.bytes.put_pair.Tie as tie
+
+returns : tie.Need-returns
+unfolding putPair
+returns c = c .before .before .put-four .ensures
+
+pub put-pair-spec : {M : Type 1} → statement M
+put-pair-spec =
+    tie.close
+    (tie.spec
+    (λ c. search needs)
+    (λ c. search needs)
+    (λ c. search needs)
+    (λ c. search needs)
+    (λ c κs. search needs)
+    (λ c. search needs)
+    returns)

@@ -1,0 +1,32 @@
+use denote.Ref.{now}
+use mathlib.Core.Path.{refl, _∙_}
+use Rattle.fifo_c.proofs.Laws.{clocks-held}
+use borrow.Author.Needs.{needs}
+use Rattle.fifo_c.proofs.call.hold.Statement.{statement}
+use Rattle.fifo_c.proofs.call.hold.Tie as tie
+
+returns : tie.Need-returns
+returns c =
+    let put = c .before .before in
+    let answered = put .before .before .before .before in
+    let worded = answered .before in
+    let read = worded .before .before in
+    let decoded = read .before .before in
+    let known = decoded .before .before in
+    let start = known .before in (
+      clocks-held (start .args .word) (now (start .args .state)) (start .pre .0) (λ i. known .slice-known .given i .fits) (start .pre .1 .0) (decoded .decode .ensures) (put .put-clocks .ensures),
+      answered .put-answer .ensures ∙ rw (worded .answer .ensures, read .read-state .ensures, decoded .decode .ensures) refl,
+    )
+
+pub hold-spec : {M : Type 1} → statement M
+hold-spec =
+    tie.close
+    (tie.spec
+    (λ c κs. search needs)
+    (λ c κs. search needs)
+    (λ c κs. search needs)
+    (λ c κs. search needs)
+    (λ c κs. search needs)
+    (λ c. search needs)
+    (λ c. search needs)
+    returns)
