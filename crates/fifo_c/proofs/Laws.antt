@@ -9,8 +9,7 @@ use Rattle.fifo_c.specs.Marks.{readBefore, shownOffset, writeBefore}
 use Rattle.fifo_c.specs.Spelling.{putClocks, putCounts, putEnums, putLevels, putLowFirst, putPair, putRest, spelling, spells, stateBytes, stateIn}
 use Rattle.fifo_c.specs.SpellingLaws.{Bytes, clocks-put, put-over, written-back}
 use Rattle.chip.specs.Reset.{poweredUp}
-use Rattle.chip.specs.State.{passes, widths}
-use Rattle.chip.specs.Widths.{tested-widths}
+use Rattle.chip.specs.State.{passes}
 use borrow.Author.Tests.{eq-eqb, ne-eqb}
 use Rattle.counts.specs.declared.part.Lookup.{Lookup}
 use Rattle.counts.specs.declared.part.Lookup.the-variants.{Known, Unknown}
@@ -34,7 +33,7 @@ use Rattle.fifo.specs.StillLaws.{still-free, still-quiet}
 use Rattle.pins.specs.declared.record.Pins.{Pins}
 use Rattle.pins.specs.Record.{pinsOf}
 use Rattle.pins.specs.Trace.{wordAt}
-use Rattle.fifo_c.specs.Call.{Called, Calls, Gives, PowersUp, Ready, Within, byVerdict, called, memoryFor, powered, memoryBytes, numberOf, storedIn, taken, took, turnedAway, wordSize, worked}
+use Rattle.fifo_c.specs.Call.{Calls, Gives, PowersUp, Ready, Within, byVerdict, called, memoryFor, powered, memoryBytes, numberOf, storedIn, taken, took, wordSize, worked}
 use Rattle.fifo_c.specs.CallLaws.{cleared, store-within}
 use native.Mathlib.Omega.{arith}
 use Rattle.chip.specs.declared.advance.Store.{Store}
