@@ -1,6 +1,6 @@
 -- Bench figures, the C call: a word is four bytes, the first of most weight.
 use Prim.Native.Nat.{ℕ, _+_, _/_, _%_, _^_}
-use mathlib.Core.List.{List}
+use mathlib.Core.List.{List, [], _∷_}
 use lib.ListN.{set}
 use Rattle.pins.specs.Trace.{recordsFrom, wholeRecords}
 
@@ -10,11 +10,31 @@ byteOf place word = word / 2 ^ place % 2 ^ 8
 abbrev pub lowByte : ℕ → ℕ
 lowByte word = word % 2 ^ 8
 
-unfoldable pub putFour : List ℕ → ℕ → ℕ → ℕ → ℕ → ℕ → List ℕ
-putFour bytes at first second third fourth = set (set (set (set bytes at first) (at + 1) second) (at + 2) third) (at + 3) fourth
+-- four bytes that stand together
+pub record Four : Type 0 where
+  pub first : ℕ
+  pub second : ℕ
+  pub third : ℕ
+  pub fourth : ℕ
+
+-- put over those that stood there
+unfoldable pub putFour : List ℕ → ℕ → Four → List ℕ
+putFour bytes at four = set (set (set (set bytes at (four .first)) (at + 1) (four .second)) (at + 2) (four .third)) (at + 3) (four .fourth)
+
+abbrev pub putFours : ℕ → List Four → List ℕ → List ℕ
+putFours at [] bytes = bytes
+putFours at (four ∷ more) bytes = putFours (at + 4) more (putFour bytes at four)
+
+-- one after the other
+abbrev pub inOrder : List Four → List ℕ
+inOrder [] = []
+inOrder (four ∷ more) = four .first ∷ four .second ∷ four .third ∷ four .fourth ∷ inOrder more
+
+abbrev pub highFirst : ℕ → Four
+highFirst word = record { first = byteOf 24 word; second = byteOf 16 word; third = byteOf 8 word; fourth = lowByte word }
 
 unfoldable pub putWord : List ℕ → ℕ → ℕ → List ℕ
-putWord bytes at word = putFour bytes at (byteOf 24 word) (byteOf 16 word) (byteOf 8 word) (lowByte word)
+putWord bytes at word = putFour bytes at (highFirst word)
 
 -- the words of a memory that is handed in as bytes
 abbrev pub wordsIn : List ℕ → List ℕ

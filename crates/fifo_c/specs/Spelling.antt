@@ -12,41 +12,51 @@ use Rattle.pins.specs.Trace.{joined}
 use Rattle.sides.specs.declared.read.ReadSide.{ReadSide}
 use Rattle.sides.specs.declared.write.WriteSide.{WriteSide}
 use Rattle.views.specs.Stages.{readRose, writeRose}
-use Rattle.fifo_c.specs.Bytes.{byteOf, lowByte, putFour}
+use Rattle.fifo_c.specs.Bytes.{Four, byteOf, inOrder, lowByte}
 use Rattle.fifo_c.specs.Marks.{digitOf, isM, isSerial, levelOf, modeDigit, modeOf, nextOf, readBefore, readRiseOf, setupDigit, setupOf, shownOffset, showsOf, showsOffset, viewDigit, viewOf, writeBefore, writeRiseOf}
 
 abbrev pub stateBytes : ℕ
 stateBytes = 48
 
--- a byte for each level and each enum, and one for the number of serial bits
-abbrev pub digitsOf : State → List ℕ
-digitsOf s =
-    digitOf (s .started) ∷ digitOf (s .write .level) ∷ digitOf (s .read .level) ∷ digitOf (s .write .wrapped)
-    ∷ digitOf (readRose (s .write .latest)) ∷ digitOf (writeRose (s .read .latest)) ∷ digitOf (s .write .paf) ∷ digitOf (s .read .pae)
-    ∷ digitOf (isSerial (s .offsets .method)) ∷ digitOf (isM (s .offsets .next)) ∷ digitOf (isM (s .reading .next)) ∷ digitOf (showsOffset (s .reading .shows))
-    ∷ viewDigit (s .write .view) ∷ setupDigit (s .read .setup) ∷ modeDigit (s .read .mode) ∷ s .offsets .count ∷ []
+-- a byte for each level
+abbrev pub digits : Bool → Bool → Bool → Bool → Four
+digits first second third fourth = record { first = digitOf first; second = digitOf second; third = digitOf third; fourth = digitOf fourth }
+
+abbrev pub levelsOf : State → List Four
+levelsOf s =
+    digits (s .started) (s .write .level) (s .read .level) (s .write .wrapped)
+    ∷ digits (readRose (s .write .latest)) (writeRose (s .read .latest)) (s .write .paf) (s .read .pae)
+    ∷ digits (isSerial (s .offsets .method)) (isM (s .offsets .next)) (isM (s .reading .next)) (showsOffset (s .reading .shows))
+    ∷ []
+
+-- a byte for each enum of three values, and one for the number of serial bits
+abbrev pub enumsOf : State → List Four
+enumsOf s =
+    record { first = viewDigit (s .write .view); second = setupDigit (s .read .setup); third = modeDigit (s .read .mode); fourth = s .offsets .count } ∷ []
 
 -- numbers have their byte of least weight first, as the processors that this is built for keep them
-abbrev pub pair : ℕ → ℕ → List ℕ
-pair first second = lowByte first ∷ byteOf 8 first ∷ lowByte second ∷ byteOf 8 second ∷ []
+abbrev pub pair : ℕ → ℕ → Four
+pair first second = record { first = lowByte first; second = byteOf 8 first; third = lowByte second; fourth = byteOf 8 second }
 
-abbrev pub lowFirst : ℕ → List ℕ
-lowFirst word = lowByte word ∷ byteOf 8 word ∷ byteOf 16 word ∷ byteOf 24 word ∷ []
+abbrev pub lowFirst : ℕ → Four
+lowFirst word = record { first = lowByte word; second = byteOf 8 word; third = byteOf 16 word; fourth = byteOf 24 word }
 
 -- each side's count and stages, with the count remembered for a missed skew
-abbrev pub countsOf : State → List ℕ
+abbrev pub countsOf : State → List Four
 countsOf s =
-    pair (s .write .count .0) (s .write .first .0) ++ pair (s .write .second .0) (readBefore (s .write .latest))
-    ++ pair (s .read .count .0) (s .read .first .0) ++ pair (s .read .second .0) (writeBefore (s .read .latest))
+    pair (s .write .count .0) (s .write .first .0) ∷ pair (s .write .second .0) (readBefore (s .write .latest))
+    ∷ pair (s .read .count .0) (s .read .first .0)
+    ∷ pair (s .read .second .0) (writeBefore (s .read .latest))
+    ∷ []
 
 -- the offsets, loaded, loading and shown, and the output register; two bytes are left over
-abbrev pub restOf : State → List ℕ
+abbrev pub restOf : State → List Four
 restOf s =
-    pair (s .offsets .n) (s .offsets .m) ++ lowFirst (s .offsets .serial) ++ pair (shownOffset (s .reading .shows)) 0 ++ lowFirst (s .read .output)
+    pair (s .offsets .n) (s .offsets .m) ∷ lowFirst (s .offsets .serial) ∷ pair (shownOffset (s .reading .shows)) 0 ∷ lowFirst (s .read .output) ∷ []
 
 -- how a state is written
 unfoldable pub spelling : State → List ℕ
-spelling s = digitsOf s ++ countsOf s ++ restOf s
+spelling s = inOrder (levelsOf s ++ enumsOf s ++ countsOf s ++ restOf s)
 
 -- one level, one number of 16 bits and one of 32, read from their bytes
 unfoldable pub levelAt : List ℕ → ℕ → Bool
@@ -125,41 +135,6 @@ blankElsewhere bytes =
 -- whether bytes spell a state at all
 unfoldable pub spells : List ℕ → Bool
 spells bytes = spelledDigits bytes && blankElsewhere bytes
-
--- writing over what stood there
-unfoldable pub putPair : List ℕ → ℕ → ℕ → ℕ → List ℕ
-putPair bytes at first second = putFour bytes at (lowByte first) (byteOf 8 first) (lowByte second) (byteOf 8 second)
-
-unfoldable pub putLowFirst : List ℕ → ℕ → ℕ → List ℕ
-putLowFirst bytes at word = putFour bytes at (lowByte word) (byteOf 8 word) (byteOf 16 word) (byteOf 24 word)
-
-unfoldable pub putFourLevels : List ℕ → ℕ → Bool → Bool → Bool → Bool → List ℕ
-putFourLevels bytes at first second third fourth = putFour bytes at (digitOf first) (digitOf second) (digitOf third) (digitOf fourth)
-
-unfoldable pub putLevels : State → List ℕ → List ℕ
-putLevels s bytes =
-    putFourLevels
-    (putFourLevels
-    (putFourLevels bytes 0 (s .started) (s .write .level) (s .read .level) (s .write .wrapped))
-    4 (readRose (s .write .latest)) (writeRose (s .read .latest)) (s .write .paf) (s .read .pae))
-    8 (isSerial (s .offsets .method)) (isM (s .offsets .next)) (isM (s .reading .next)) (showsOffset (s .reading .shows))
-
-unfoldable pub putEnums : State → List ℕ → List ℕ
-putEnums s bytes = putFour bytes 12 (viewDigit (s .write .view)) (setupDigit (s .read .setup)) (modeDigit (s .read .mode)) (s .offsets .count)
-
-unfoldable pub putCounts : State → List ℕ → List ℕ
-putCounts s bytes =
-    putPair
-    (putPair
-    (putPair (putPair bytes 16 (s .write .count .0) (s .write .first .0)) 20 (s .write .second .0) (readBefore (s .write .latest)))
-    24 (s .read .count .0) (s .read .first .0))
-    28 (s .read .second .0) (writeBefore (s .read .latest))
-
-unfoldable pub putRest : State → List ℕ → List ℕ
-putRest s bytes =
-    putLowFirst
-    (putPair (putLowFirst (putPair bytes 32 (s .offsets .n) (s .offsets .m)) 36 (s .offsets .serial)) 40 (shownOffset (s .reading .shows)) 0)
-    44 (s .read .output)
 
 -- the two clocks' levels alone
 unfoldable pub putClocks : Bool → Bool → List ℕ → List ℕ

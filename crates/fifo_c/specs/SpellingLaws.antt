@@ -28,10 +28,10 @@ use Rattle.views.specs.declared.stages.WriteRise.the-variants as writeRise
 use Rattle.views.specs.Stages.{readRose, writeRose}
 use Rattle.fifo_c.specs.BytesLaws.{word-again}
 use Rattle.pins.specs.declared.record.Pins.{Pins}
-use Rattle.fifo_c.specs.Bytes.{byteOf, lowByte, putFour}
+use Rattle.fifo_c.specs.Bytes.{Four, byteOf, inOrder, lowByte, putFour, putFours}
 use Rattle.fifo_c.specs.Marks.{digitOf, isM, isSerial, modeDigit, modeOf, readBefore, readRiseOf, setupDigit, setupOf, shownOffset, showsOf, showsOffset, viewDigit, viewOf, writeBefore, writeRiseOf}
 use Rattle.fifo_c.specs.MarksLaws.{digit-back, level-again, level-small, method-again, method-back, mode-again, mode-back, mode-small, next-again, next-back, offset-back, read-before-back, read-blank, read-rise-again, read-rose-back, setup-again, setup-back, setup-small, shown-back, shows-again, shows-blank, view-again, view-back, view-small, write-before-back, write-blank, write-rise-again, write-rose-back}
-use Rattle.fifo_c.specs.Spelling.{blankElsewhere, countsOf, digitsOf, fourLevels, halfAt, levelAt, lowFirst, lowFirstAt, offsetsIn, pair, putClocks, putCounts, putEnums, putFourLevels, putLevels, putLowFirst, putPair, putRest, readIn, readingIn, restOf, spelledDigits, spelling, spells, stateBytes, stateIn, writeIn}
+use Rattle.fifo_c.specs.Spelling.{blankElsewhere, countsOf, enumsOf, fourLevels, halfAt, levelAt, levelsOf, lowFirstAt, offsetsIn, putClocks, readIn, readingIn, restOf, spelledDigits, spelling, spells, stateBytes, stateIn, writeIn}
 
 -- the first elements of a list, one by one
 abbrev listed : ℕ → (ℕ → ℕ) → List ℕ
@@ -45,8 +45,9 @@ one-by-one (suc many) [] e = absurd (omega arith)
 one-by-one (suc many) (x ∷ xs) e = ap (λ (l : List ℕ). x ∷ l) (one-by-one many xs (omega arith))
 
 -- whatever stood there before
-pub put-over : (s : State) (bytes : List ℕ) → length bytes ≡ stateBytes → putRest s (putCounts s (putEnums s (putLevels s bytes))) ≡ spelling s
-unfolding putRest putCounts putEnums putLevels putFourLevels putLowFirst putPair putFour spelling
+pub put-over : (s : State) (bytes : List ℕ) → length bytes ≡ stateBytes
+    → putFours 32 (restOf s) (putFours 16 (countsOf s) (putFours 12 (enumsOf s) (putFours 0 (levelsOf s) bytes))) ≡ spelling s
+unfolding putFour spelling
 put-over s bytes e = rw (one-by-one stateBytes bytes e) refl
 
 -- where no clock rises only the levels are other bytes
@@ -342,18 +343,17 @@ each-byte [] all i = omega arith
 each-byte (x ∷ xs) all zero = all .0
 each-byte (x ∷ xs) all (suc i) = each-byte xs (all .1) i
 
-joined-bytes : (first second : List ℕ) → AllBytes first → AllBytes second → AllBytes (first ++ second)
+abbrev AllFours : List Four → Type 0
+AllFours [] = Unit {0}
+AllFours (four ∷ more) = (four .first < 2 ^ 8) × ((four .second < 2 ^ 8) × ((four .third < 2 ^ 8) × ((four .fourth < 2 ^ 8) × AllFours more)))
+
+in-order-bytes : (fours : List Four) → AllFours fours → AllBytes (inOrder fours)
+in-order-bytes [] all = tt
+in-order-bytes (four ∷ more) all = (all .0, (all .1 .0, (all .1 .1 .0, (all .1 .1 .1 .0, in-order-bytes more (all .1 .1 .1 .1)))))
+
+joined-bytes : (first second : List Four) → AllFours first → AllFours second → AllFours (first ++ second)
 joined-bytes [] second all more = more
-joined-bytes (x ∷ xs) second all more = (all .0, joined-bytes xs second (all .1) more)
-
-four-groups : (a b c d : List ℕ) → AllBytes a → AllBytes b → AllBytes c → AllBytes d → AllBytes (a ++ b ++ c ++ d)
-four-groups a b c d e f g h = joined-bytes (a ++ b ++ c) d (joined-bytes (a ++ b) c (joined-bytes a b e f) g) h
-
-pair-bytes : (first second : ℕ) → AllBytes (pair first second)
-pair-bytes first second = (omega arith, (omega arith, (omega arith, (omega arith, tt))))
-
-word-bytes : (word : ℕ) → AllBytes (lowFirst word)
-word-bytes word = (omega arith, (omega arith, (omega arith, (omega arith, tt))))
+joined-bytes (four ∷ fours) second all more = (all .0, (all .1 .0, (all .1 .1 .0, (all .1 .1 .1 .0, joined-bytes fours second (all .1 .1 .1 .1) more))))
 
 level-byte : (level : Bool) → digitOf level < 2 ^ 8
 level-byte level = let h = level-small level in omega arith
@@ -362,35 +362,124 @@ module _ (part : Part) (s : State) (e : widths part s ≡ true) (counts : Counte
   h : Small s
   h = small part s e counts
 
-  digits-bytes : AllBytes (digitsOf s)
-  digits-bytes =
-      let v = view-small (s .write .view) in
-      let u = setup-small (s .read .setup) in
-      let m = mode-small (s .read .mode) in (
-        level-byte (s .started),
+  levels-bytes : AllFours (levelsOf s)
+  levels-bytes = (
+    level-byte (s .started),
+    (
+      level-byte (s .write .level),
+      (
+        level-byte (s .read .level),
         (
-          level-byte (s .write .level),
+          level-byte (s .write .wrapped),
           (
-            level-byte (s .read .level),
+            level-byte (readRose (s .write .latest)),
             (
-              level-byte (s .write .wrapped),
+              level-byte (writeRose (s .read .latest)),
               (
-                level-byte (readRose (s .write .latest)),
+                level-byte (s .write .paf),
                 (
-                  level-byte (writeRose (s .read .latest)),
+                  level-byte (s .read .pae),
                   (
-                    level-byte (s .write .paf),
+                    level-byte (isSerial (s .offsets .method)),
                     (
-                      level-byte (s .read .pae),
+                      level-byte (isM (s .offsets .next)),
                       (
-                        level-byte (isSerial (s .offsets .method)),
+                        level-byte (isM (s .reading .next)),
                         (
-                          level-byte (isM (s .offsets .next)),
+                          level-byte (showsOffset (s .reading .shows)),
+                          tt,
+                        ),
+                      ),
+                    ),
+                  ),
+                ),
+              ),
+            ),
+          ),
+        ),
+      ),
+    ),
+  )
+
+  enums-bytes : AllFours (enumsOf s)
+  enums-bytes =
+      let view = view-small (s .write .view) in
+      let setup = setup-small (s .read .setup) in
+      let mode = mode-small (s .read .mode) in
+      (omega arith, (omega arith, (omega arith, (h .count, tt))))
+
+  numbers-bytes : AllFours (countsOf s ++ restOf s)
+  numbers-bytes = (
+    omega arith,
+    (
+      omega arith,
+      (
+        omega arith,
+        (
+          omega arith,
+          (
+            omega arith,
+            (
+              omega arith,
+              (
+                omega arith,
+                (
+                  omega arith,
+                  (
+                    omega arith,
+                    (
+                      omega arith,
+                      (
+                        omega arith,
+                        (
+                          omega arith,
                           (
-                            level-byte (isM (s .reading .next)),
+                            omega arith,
                             (
-                              level-byte (showsOffset (s .reading .shows)),
-                              (omega arith, (omega arith, (omega arith, (h .count, tt)))),
+                              omega arith,
+                              (
+                                omega arith,
+                                (
+                                  omega arith,
+                                  (
+                                    omega arith,
+                                    (
+                                      omega arith,
+                                      (
+                                        omega arith,
+                                        (
+                                          omega arith,
+                                          (
+                                            omega arith,
+                                            (
+                                              omega arith,
+                                              (
+                                                omega arith,
+                                                (
+                                                  omega arith,
+                                                  (
+                                                    omega arith,
+                                                    (
+                                                      omega arith,
+                                                      (
+                                                        omega arith,
+                                                        (
+                                                          omega arith,
+                                                          (omega arith, (omega arith, (omega arith, (omega arith, tt)))),
+                                                        ),
+                                                      ),
+                                                    ),
+                                                  ),
+                                                ),
+                                              ),
+                                            ),
+                                          ),
+                                        ),
+                                      ),
+                                    ),
+                                  ),
+                                ),
+                              ),
                             ),
                           ),
                         ),
@@ -402,23 +491,16 @@ module _ (part : Part) (s : State) (e : widths part s ≡ true) (counts : Counte
             ),
           ),
         ),
-      )
-
-  counts-bytes : AllBytes (countsOf s)
-  counts-bytes =
-      four-groups (pair (s .write .count .0) (s .write .first .0)) (pair (s .write .second .0) (readBefore (s .write .latest)))
-      (pair (s .read .count .0) (s .read .first .0)) (pair (s .read .second .0) (writeBefore (s .read .latest)))
-      (pair-bytes (s .write .count .0) (s .write .first .0)) (pair-bytes (s .write .second .0) (readBefore (s .write .latest)))
-      (pair-bytes (s .read .count .0) (s .read .first .0)) (pair-bytes (s .read .second .0) (writeBefore (s .read .latest)))
-
-  rest-bytes : AllBytes (restOf s)
-  rest-bytes =
-      four-groups (pair (s .offsets .n) (s .offsets .m)) (lowFirst (s .offsets .serial)) (pair (shownOffset (s .reading .shows)) 0) (lowFirst (s .read .output))
-      (pair-bytes (s .offsets .n) (s .offsets .m)) (word-bytes (s .offsets .serial)) (pair-bytes (shownOffset (s .reading .shows)) 0) (word-bytes (s .read .output))
+      ),
+    ),
+  )
 
   pub spelling-bytes : Bytes (spelling s)
   unfolding spelling
-  spelling-bytes = each-byte (spelling s) (joined-bytes (digitsOf s ++ countsOf s) (restOf s) (joined-bytes (digitsOf s) (countsOf s) digits-bytes counts-bytes) rest-bytes)
+  spelling-bytes =
+      let first = joined-bytes (levelsOf s) (enumsOf s) levels-bytes enums-bytes in
+      let all = joined-bytes (levelsOf s ++ enumsOf s) (countsOf s ++ restOf s) first numbers-bytes in
+      each-byte (spelling s) (in-order-bytes (levelsOf s ++ enumsOf s ++ countsOf s ++ restOf s) all)
 
   -- a state that passes the widths, its counts of 16 bits, is read back as it was written
   pub read-back : Spelled (spelling s) s

@@ -2,7 +2,7 @@
 // of least weight.
 ghost use Prim.Native.Nat.{_+_, _<_};
 ghost use Rattle.fifo_c.specs.Bytes.{putFour, putWord};
-ghost use Rattle.fifo_c.specs.Spelling.{halfAt, lowFirstAt, putLowFirst, putPair};
+ghost use Rattle.fifo_c.specs.Spelling.{halfAt, lowFirst, lowFirstAt, pair};
 ghost use Rattle.pins.specs.Trace.{wordAt};
 ghost use lib.ListN.{length};
 ghost use mathlib.Core.Path.{_≡_};
@@ -44,7 +44,7 @@ pub(crate) fn put_word(bytes: &mut [u8], at: usize, word: u32)
 
 pub(crate) fn put_low_first(bytes: &mut [u8], at: usize, word: u32)
     requires { ⌜ at + 3 < length (now bytes) ⌝ }
-    ensures { λ _. ⌜ now (bytes .exit) ≡ putLowFirst (now (bytes .entry)) at word ⌝ }
+    ensures { λ _. ⌜ now (bytes .exit) ≡ putFour (now (bytes .entry)) at (lowFirst word) ⌝ }
 {
     put_four(
         bytes,
@@ -58,7 +58,7 @@ pub(crate) fn put_low_first(bytes: &mut [u8], at: usize, word: u32)
 
 pub(crate) fn put_pair(bytes: &mut [u8], at: usize, first: u16, second: u16)
     requires { ⌜ at + 3 < length (now bytes) ⌝ }
-    ensures { λ _. ⌜ now (bytes .exit) ≡ putPair (now (bytes .entry)) at first second ⌝ }
+    ensures { λ _. ⌜ now (bytes .exit) ≡ putFour (now (bytes .entry)) at (pair first second) ⌝ }
 {
     put_four(
         bytes,
@@ -72,7 +72,7 @@ pub(crate) fn put_pair(bytes: &mut [u8], at: usize, first: u16, second: u16)
 
 pub(crate) fn put_four(bytes: &mut [u8], at: usize, first: u8, second: u8, third: u8, fourth: u8)
     requires { ⌜ at + 3 < length (now bytes) ⌝ }
-    ensures { λ _. ⌜ now (bytes .exit) ≡ putFour (now (bytes .entry)) at first second third fourth ⌝ }
+    ensures { λ _. ⌜ now (bytes .exit) ≡ putFour (now (bytes .entry)) at (record { first = first; second = second; third = third; fourth = fourth }) ⌝ }
 {
     bytes[at] = first;
     bytes[at + 1] = second;

@@ -1,6 +1,7 @@
 // The state in lent bytes: how it is read, whether bytes spell one at all, and how it is written.
 ghost use Prim.Native.Nat.{_+_, _<_};
-ghost use Rattle.fifo_c.specs.Spelling.{blankElsewhere, fourLevels, levelAt, offsetsIn, putClocks, putCounts, putEnums, putFourLevels, putLevels, putRest, readIn, readingIn, spelledDigits, spelling, spells, stateBytes, stateIn, writeIn};
+ghost use Rattle.fifo_c.specs.Bytes.{putFour, putFours};
+ghost use Rattle.fifo_c.specs.Spelling.{blankElsewhere, countsOf, digits, enumsOf, fourLevels, levelAt, levelsOf, offsetsIn, putClocks, readIn, readingIn, restOf, spelledDigits, spelling, spells, stateBytes, stateIn, writeIn};
 ghost use lib.ListN.{length};
 ghost use mathlib.Core.Path.{_≡_};
 use super::bytes::half_at;
@@ -163,7 +164,7 @@ pub(crate) fn write_state(state: State, bytes: &mut [u8])
 
 fn put_levels(s: State, bytes: &mut [u8])
     requires { ⌜ length (now bytes) ≡ stateBytes ⌝ }
-    ensures { λ _. ⌜ now (bytes .exit) ≡ putLevels s (now (bytes .entry)) ⌝ }
+    ensures { λ _. ⌜ now (bytes .exit) ≡ putFours 0 (levelsOf s) (now (bytes .entry)) ⌝ }
 {
     let write = s.write;
     let read = s.read;
@@ -203,7 +204,7 @@ fn put_four_levels(
     fourth: bool,
 )
     requires { ⌜ at + 3 < length (now bytes) ⌝ }
-    ensures { λ _. ⌜ now (bytes .exit) ≡ putFourLevels (now (bytes .entry)) at first second third fourth ⌝ }
+    ensures { λ _. ⌜ now (bytes .exit) ≡ putFour (now (bytes .entry)) at (digits first second third fourth) ⌝ }
 {
     put_four(
         bytes,
@@ -217,7 +218,7 @@ fn put_four_levels(
 
 fn put_enums(s: State, bytes: &mut [u8])
     requires { ⌜ length (now bytes) ≡ stateBytes ⌝ }
-    ensures { λ _. ⌜ now (bytes .exit) ≡ putEnums s (now (bytes .entry)) ⌝ }
+    ensures { λ _. ⌜ now (bytes .exit) ≡ putFours 12 (enumsOf s) (now (bytes .entry)) ⌝ }
 {
     let write = s.write;
     let read = s.read;
@@ -236,7 +237,7 @@ fn put_enums(s: State, bytes: &mut [u8])
 
 fn put_counts(s: State, bytes: &mut [u8])
     requires { ⌜ length (now bytes) ≡ stateBytes ⌝ }
-    ensures { λ _. ⌜ now (bytes .exit) ≡ putCounts s (now (bytes .entry)) ⌝ }
+    ensures { λ _. ⌜ now (bytes .exit) ≡ putFours 16 (countsOf s) (now (bytes .entry)) ⌝ }
 {
     let write = s.write;
     let read = s.read;
@@ -250,7 +251,7 @@ fn put_counts(s: State, bytes: &mut [u8])
 
 fn put_rest(s: State, bytes: &mut [u8])
     requires { ⌜ length (now bytes) ≡ stateBytes ⌝ }
-    ensures { λ _. ⌜ now (bytes .exit) ≡ putRest s (now (bytes .entry)) ⌝ }
+    ensures { λ _. ⌜ now (bytes .exit) ≡ putFours 32 (restOf s) (now (bytes .entry)) ⌝ }
 {
     let reading = s.reading;
     let shows = reading.shows;

@@ -1,6 +1,6 @@
+use Rattle.fifo_c.specs.Bytes.{putFour}
 use native.Mathlib.Omega.{arith}
 use lib.ListN.{length-set}
-use Rattle.fifo_c.specs.Bytes.{putFour}
 use mathlib.Core.Path.{refl}
 use borrow.Author.Needs.{needs}
 use Rattle.fifo_c.proofs.bytes.put_four.Statement.{statement}

@@ -1,10 +1,8 @@
-use Rattle.fifo_c.specs.Spelling.{putLowFirst}
 use borrow.Author.Needs.{needs}
 use Rattle.fifo_c.proofs.bytes.put_low_first.Statement.{statement}
 use Rattle.fifo_c.proofs.bytes.put_low_first.Tie as tie
 
 returns : tie.Need-returns
-unfolding putLowFirst
 returns c = c .before .before .put-four .ensures
 
 pub put-low-first-spec : {M : Type 1} → statement M

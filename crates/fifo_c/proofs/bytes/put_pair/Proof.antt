@@ -1,10 +1,8 @@
-use Rattle.fifo_c.specs.Spelling.{putPair}
 use borrow.Author.Needs.{needs}
 use Rattle.fifo_c.proofs.bytes.put_pair.Statement.{statement}
 use Rattle.fifo_c.proofs.bytes.put_pair.Tie as tie
 
 returns : tie.Need-returns
-unfolding putPair
 returns c = c .before .before .put-four .ensures
 
 pub put-pair-spec : {M : Type 1} → statement M

@@ -1,10 +1,8 @@
-use Rattle.fifo_c.specs.Spelling.{putEnums}
 use borrow.Author.Needs.{needs}
 use Rattle.fifo_c.proofs.state.put_enums.Statement.{statement}
 use Rattle.fifo_c.proofs.state.put_enums.Tie as tie
 
 returns : tie.Need-returns
-unfolding putEnums
 returns c = simp (c .before .before .put-four .ensures, c .before .before .before .mode-digit .ensures, c .before .before .before .before .setup-digit .ensures, c .before .before .before .before .before .view-digit .ensures)
 
 pub put-enums-spec : {M : Type 1} → statement M

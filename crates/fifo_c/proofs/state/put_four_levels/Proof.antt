@@ -1,10 +1,8 @@
-use Rattle.fifo_c.specs.Spelling.{putFourLevels}
 use borrow.Author.Needs.{needs}
 use Rattle.fifo_c.proofs.state.put_four_levels.Statement.{statement}
 use Rattle.fifo_c.proofs.state.put_four_levels.Tie as tie
 
 returns : tie.Need-returns
-unfolding putFourLevels
 returns c = simp (c .before .before .put-four .ensures, c .before .before .before .digit4 .ensures, c .before .before .before .before .digit3 .ensures, c .before .before .before .before .before .digit2 .ensures, c .before .before .before .before .before .before .digit .ensures)
 
 pub put-four-levels-spec : {M : Type 1} → statement M
