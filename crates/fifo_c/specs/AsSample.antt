@@ -34,7 +34,8 @@ use Rattle.fifo_c.specs.Bytes.{wordsIn}
 use Rattle.fifo_c.specs.BytesLaws.{word-in, words-put}
 use Rattle.fifo_c.specs.Call.{Called, answerBytes, byVerdict, called, judged, onRecord, onState, roomy, fetchedFrom, memoryBytes, storedIn, taken, turnedAway, wordSize, worked}
 use Rattle.fifo_c.specs.Spelling.{spelling, spells, stateBytes, stateIn}
-use Rattle.fifo_c.specs.SpellingLaws.{Bytes, Spelled, counted-in, read-back, spelling-bytes, written-back}
+use Rattle.fifo_c.specs.ReadBackLaws.{Spelled, counted-in, read-back, spelling-bytes}
+use Rattle.fifo_c.specs.SpellingLaws.{Bytes, written-back}
 
 -- the number, the state spelled, the memory's words and the answer room are those of a sample
 pub record AsSample (c : Called) (a : After) (answer : List ℕ) : Type 0 where

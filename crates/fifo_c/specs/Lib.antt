@@ -4,6 +4,7 @@ pub mod Marks
 pub mod Spelling
 pub mod MarksLaws
 pub mod SpellingLaws
+pub mod ReadBackLaws
 pub mod Call
 pub mod CallLaws
 pub mod AsSample

@@ -27,7 +27,8 @@ use Rattle.fifo_c.specs.BytesLaws.{put-length}
 use Rattle.fifo_c.specs.Call.{answerBytes, byVerdict, called, decided, fetchedFrom, judged, memoryBytes, onRecord, onState, powered, roomy, storedIn, taken, wordSize, worked}
 use Rattle.fifo_c.specs.CallLaws.{cleared}
 use Rattle.fifo_c.specs.Spelling.{stateBytes, stateIn}
-use Rattle.fifo_c.specs.SpellingLaws.{Bytes, Spelled, power-up-bytes, power-up-read, spelling-length}
+use Rattle.fifo_c.specs.ReadBackLaws.{Spelled, power-up-bytes, power-up-read}
+use Rattle.fifo_c.specs.SpellingLaws.{Bytes, spelling-length}
 use Rattle.fifo.specs.declared.sample.Outcome.{Outcome}
 use Rattle.fifo.specs.Run.{answersAfter, putAnswer}
 use Rattle.fifo.specs.Sample.{recordRefusal}

@@ -24,7 +24,7 @@ use Rattle.fifo.specs.Sample.{numberOf}
 use Rattle.fifo_c.specs.Bytes.{wordsIn}
 use Rattle.fifo_c.specs.Call.{memoryBytes}
 use Rattle.fifo_c.specs.Spelling.{stateBytes}
-use Rattle.fifo_c.specs.SpellingLaws.{Spelled}
+use Rattle.fifo_c.specs.ReadBackLaws.{Spelled}
 use Rattle.pins.specs.Record.{bit, pinsOf}
 use Rattle.pins.specs.Trace.{wordAt}
 use Rattle.history.specs.AnswerLaws.{answers-taken}
