@@ -13,3 +13,4 @@ pub mod ReachLaws
 pub mod SinceReset
 pub mod RefusalLaws
 pub mod Unique
+pub mod ThreeLaws

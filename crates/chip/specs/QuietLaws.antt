@@ -20,18 +20,18 @@ use Rattle.chip.specs.Quiet.{clockRises, held, quiet}
 use Rattle.chip.specs.Refuse.{fromSix, refusalOf, refusesEight, refusesFive, refusesNine, refusesSeven, refusesSix, refusesTen}
 
 -- neither clock rises
-record Still (p : Pins) (s : State) : Type 0 where
+record NoRise (p : Pins) (s : State) : Type 0 where
   write : writeRises p (s .write) ≡ false
   read : readRises p (s .read) ≡ false
 
-still-by : (write read : Bool) → (write || read) ≡ false → (write ≡ false) × (read ≡ false)
-still-by false read e = (refl, e)
-still-by true read e = (e, cc)
+no-rise-by : (write read : Bool) → (write || read) ≡ false → (write ≡ false) × (read ≡ false)
+no-rise-by false read e = (refl, e)
+no-rise-by true read e = (e, cc)
 
-still : (p : Pins) (s : State) → clockRises p s ≡ false → Still p s
-still p s e = let both = still-by (writeRises p (s .write)) (readRises p (s .read)) e in record { write = both .0; read = both .1 }
+no-rise : (p : Pins) (s : State) → clockRises p s ≡ false → NoRise p s
+no-rise p s e = let both = no-rise-by (writeRises p (s .write)) (readRises p (s .read)) e in record { write = both .0; read = both .1 }
 
-none-refused : (part : Part) (p : Pins) (s : State) → Still p s → fromSix part p s ≡ 0
+none-refused : (part : Part) (p : Pins) (s : State) → NoRise p s → fromSix part p s ≡ 0
 unfolding refusesSix refusesSeven refusesEight refusesNine refusesTen retransmits
 none-refused part p s e = simp (e .write, e .read)
 
@@ -43,7 +43,7 @@ past-by false rises number none = refl
 pub past-five : (part : Part) (p : Pins) (s : State) → refusesFive p s ≡ false
     → refusalOf part p s ≡ cond (p .mrs && p .prs && clockRises p s) (fromSix part p s) 0
 unfolding refusalOf
-past-five part p s e = simp e (past-by (p .mrs && p .prs) (clockRises p s) (fromSix part p s) (λ f. none-refused part p s (still p s f)))
+past-five part p s e = simp e (past-by (p .mrs && p .prs) (clockRises p s) (fromSix part p s) (λ f. none-refused part p s (no-rise p s f)))
 
 pub quiet-free : (part : Part) (p : Pins) (s : State) → s .started ≡ true → quiet p s ≡ true → refusalOf part p s ≡ 0
 unfolding quiet
@@ -51,7 +51,7 @@ quiet-free part p s started e =
     let calm = not-true (clockRises p s) (and-eq-true-iff (p .mrs && p .prs) (not (clockRises p s)) .0 e .1) in
     simp (past-five part p s (simp started), calm, and-false)
 
-running-held : (part : Part) (p : Pins) (fetched : ℕ) (s : State) → Still p s → running part p fetched s ≡ held p s
+running-held : (part : Part) (p : Pins) (fetched : ℕ) (s : State) → NoRise p s → running part p fetched s ≡ held p s
 unfolding running held offsetsAfter readingAfter retransmits
 running-held part p fetched s e =
     simp (write-held (depthOf part) (s .offsets .m) p (s .read) (s .write) (e .write), read-held (s .offsets .n) p fetched (s .write) (s .read) (e .read), e .write, e .read)
@@ -60,7 +60,7 @@ answer-held : (part : Part) (p : Pins) (s : State) → answerOf part p (held p s
 unfolding answerOf linesOf held full ready seesWord
 answer-held part p s = refl
 
-nothing-stored : (part : Part) (p : Pins) (s : State) → Still p s → storeOf part p s ≡ Keep
+nothing-stored : (part : Part) (p : Pins) (s : State) → NoRise p s → storeOf part p s ≡ Keep
 unfolding storeOf accepts
 nothing-stored part p s e = simp (e .write, and-false)
 
@@ -70,5 +70,5 @@ unfolding advanced stateAfter quiet
 quiet-advanced part p fetched s e =
     let outside = and-eq-true-iff (p .mrs && p .prs) (not (clockRises p s)) .0 e in
     let high = and-eq-true-iff (p .mrs) (p .prs) .0 (outside .0) in
-    let calm = still p s (not-true (clockRises p s) (outside .1)) in
+    let calm = no-rise p s (not-true (clockRises p s) (outside .1)) in
     simp (high .0, high .1, running-held part p fetched s calm, answer-held part p s, nothing-stored part p s calm)
