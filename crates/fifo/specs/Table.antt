@@ -1,6 +1,6 @@
 -- Bench figures: the ten lines of the listing, and both sides of the limits of HF and PAE. What is turned away: 3, judged once.
 use Prim.Native.Nat.{ℕ, _+_, _*_, _^_}
-use mathlib.Core.Bool.{Bool, true, false}
+use mathlib.Core.Bool.{true, false}
 use mathlib.Core.List.{List, [], _∷_, _++_}
 use mathlib.Core.Path.{_≡_, refl}
 use lib.ListN.{replicate}
