@@ -1,4 +1,4 @@
--- One law for each way out, over what the functions called gave.
+-- What the proofs of functions put together, over what the functions called gave: mostly a law for each way out.
 use Prim.Native.Nat.{ℕ, _+_, _*_, _<_}
 use mathlib.Core.Bool.{Bool, true, false, _&&_}
 use mathlib.Core.List.{List}
@@ -6,7 +6,7 @@ use lib.ListN.{length}
 use mathlib.Core.Path.{_≡_, refl, sym, ap, subst, _∙_}
 use Rattle.chip.specs.declared.state.State.{State}
 use Rattle.fifo_c.specs.Bytes.{putFour, putFours}
-use Rattle.fifo_c.specs.Marks.{readBefore, shownOffset, writeBefore}
+use Rattle.fifo_c.specs.Digits.{readBefore, shownOffset, writeBefore}
 use Rattle.fifo_c.specs.Spelling.{countsOf, enumsOf, levelsOf, lowFirst, pair, putClocks, restOf, spelling, spells, stateBytes, stateIn}
 use Rattle.fifo_c.specs.SpellingLaws.{Bytes, clocks-put, put-over, written-back}
 use Rattle.chip.specs.Reset.{poweredUp}
@@ -15,17 +15,16 @@ use borrow.Author.Tests.{eq-eqb, ne-eqb}
 use Rattle.counts.specs.declared.part.Lookup.{Lookup}
 use Rattle.counts.specs.declared.part.Lookup.the-variants.{Known, Unknown}
 use Rattle.counts.specs.declared.part.Part.{Part}
-use Rattle.counts.specs.Part.{partOf}
+use Rattle.counts.specs.Part.{depthOf, partOf}
 use Rattle.fifo_c.specs.declared.verdict.Verdict.{Verdict}
 use Rattle.fifo_c.specs.declared.verdict.Verdict.the-variants.{Work, Refuse}
-use Rattle.fifo_c.specs.Call.{judged, onRecord, onState, roomy}
+use Rattle.fifo_c.specs.Call.{Calls, Gives, PowersUp, Ready, Within, byVerdict, called, judged, memoryBytes, memoryFor, numberOf, onRecord, onState, powered, roomy, storedIn, taken, took, wordSize, worked}
 use Rattle.chip.specs.declared.advance.Advanced.{Advanced}
 use Rattle.chip.specs.Advance.{advanced, storeOf}
 use Rattle.chip.specs.Answer.{answerOf}
 use Rattle.chip.specs.Quiet.{held}
 use Rattle.chip.specs.QuietLaws.{quiet-advanced}
 use Rattle.chip.specs.Laws.{store-placed}
-use Rattle.counts.specs.Part.{depthOf}
 use Rattle.counts.specs.Round.{placeOf}
 use Rattle.fifo.specs.Run.{putAnswer}
 use Rattle.fifo.specs.Sample.{recordRefusal}
@@ -34,7 +33,6 @@ use Rattle.fifo.specs.StillLaws.{still-free, still-quiet}
 use Rattle.pins.specs.declared.record.Pins.{Pins}
 use Rattle.pins.specs.Record.{pinsOf}
 use Rattle.pins.specs.Trace.{wordAt}
-use Rattle.fifo_c.specs.Call.{Calls, Gives, PowersUp, Ready, Within, byVerdict, called, memoryFor, powered, memoryBytes, numberOf, storedIn, taken, took, wordSize, worked}
 use Rattle.fifo_c.specs.CallLaws.{cleared, store-within}
 use native.Mathlib.Omega.{arith}
 use Rattle.chip.specs.declared.advance.Store.{Store}

@@ -41,10 +41,10 @@ memoryFor number = byPart (partOf number) memoryBytes 0
 abbrev pub roomy : Part → ℕ → ℕ → ℕ → Bool
 roomy part state memory answer = eqb state stateBytes && eqb memory (memoryBytes part) && eqb answer answerBytes
 
-pub record Lengths (part : Part) (spelling words room : ℕ) : Type 0 where
-  pub state : spelling ≡ stateBytes
-  pub memory : words ≡ memoryBytes part
-  pub answer : room ≡ answerBytes
+pub record Lengths (part : Part) (ofState ofMemory ofAnswer : ℕ) : Type 0 where
+  pub state : ofState ≡ stateBytes
+  pub memory : ofMemory ≡ memoryBytes part
+  pub answer : ofAnswer ≡ answerBytes
 
 -- a part, a state and two lengths that pass 1, 2 and 3
 pub record Ready (part : Part) (state : List ℕ) (memory answer : ℕ) : Type 0 where

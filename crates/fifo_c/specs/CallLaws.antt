@@ -82,22 +82,22 @@ pub cleared : (number : ℕ) (bytes state : List ℕ) (memory answer : ℕ) (par
     → judged number bytes state memory answer ≡ Work part x → Cleared number bytes state memory answer part x
 cleared number bytes state memory answer part x e = subst (Clears number bytes state memory answer) e (all-cleared number bytes state memory answer)
 
-abbrev Still : Called → List ℕ → List ℕ → List ℕ → Type 0
-Still c state memory answer = c .code ≢ 0 → c ≡ turnedAway (c .code) state memory answer
+abbrev Unmoved : Called → List ℕ → List ℕ → List ℕ → Type 0
+Unmoved c state memory answer = c .code ≢ 0 → c ≡ turnedAway (c .code) state memory answer
 
-still-decided : (free : Bool) (number : ℕ) (part : Part) (x : ℕ) (state memory answer : List ℕ) → Still (decided free number part x state memory answer) state memory answer
+unmoved-decided : (free : Bool) (number : ℕ) (part : Part) (x : ℕ) (state memory answer : List ℕ) → Unmoved (decided free number part x state memory answer) state memory answer
 unfolding taken
-still-decided true number part x state memory answer = λ n. absurd (n refl)
-still-decided false number part x state memory answer = λ n. refl
+unmoved-decided true number part x state memory answer = λ n. absurd (n refl)
+unmoved-decided false number part x state memory answer = λ n. refl
 
-still-by : (v : Verdict) (state memory answer : List ℕ) → Still (byVerdict v state memory answer) state memory answer
+unmoved-by : (v : Verdict) (state memory answer : List ℕ) → Unmoved (byVerdict v state memory answer) state memory answer
 unfolding worked
-still-by (Work part x) state memory answer =
-    let number = recordRefusal part x (stateIn state) in still-decided (eqb number 0) number part x state memory answer
-still-by (Refuse number) state memory answer = λ n. refl
+unmoved-by (Work part x) state memory answer =
+    let number = recordRefusal part x (stateIn state) in unmoved-decided (eqb number 0) number part x state memory answer
+unmoved-by (Refuse number) state memory answer = λ n. refl
 
 -- whatever was handed in
 pub refused-still : (number : ℕ) (bytes state memory answer : List ℕ) → called number bytes state memory answer .code ≢ 0
     → called number bytes state memory answer ≡ turnedAway (called number bytes state memory answer .code) state memory answer
 unfolding called
-refused-still number bytes state memory answer = still-by (judged number bytes state (length memory) (length answer)) state memory answer
+refused-still number bytes state memory answer = unmoved-by (judged number bytes state (length memory) (length answer)) state memory answer

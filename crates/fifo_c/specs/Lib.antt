@@ -1,8 +1,8 @@
 pub mod Bytes
 pub mod BytesLaws
-pub mod Marks
+pub mod Digits
 pub mod Spelling
-pub mod MarksLaws
+pub mod DigitsLaws
 pub mod SpellingLaws
 pub mod ReadBackLaws
 pub mod Call

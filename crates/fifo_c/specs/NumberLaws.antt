@@ -1,4 +1,5 @@
--- What is turned away, Bench figures: which number the C call gives, in the table's order and in the paper's own figures.
+-- What is turned away, Bench figures: which number the C call gives, in the table's order. All lengths and part numbers stand in
+-- plain figures, so that a definition that says another is refused here.
 use Prim.Native.Nat.{ℕ}
 use mathlib.Core.Bool.{Bool, true, false, and-false}
 use mathlib.Core.List.{List}

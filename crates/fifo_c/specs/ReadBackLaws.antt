@@ -26,8 +26,8 @@ use Rattle.views.specs.declared.stages.WriteRise.the-variants as writeRise
 use Rattle.views.specs.Stages.{readRose, writeRose}
 use Rattle.fifo_c.specs.BytesLaws.{word-again}
 use Rattle.fifo_c.specs.Bytes.{Four, byteOf, inOrder, lowByte}
-use Rattle.fifo_c.specs.Marks.{digitOf, isM, isSerial, modeDigit, readBefore, readRiseOf, setupDigit, shownOffset, showsOffset, viewDigit, writeBefore, writeRiseOf}
-use Rattle.fifo_c.specs.MarksLaws.{level-again, level-small, method-again, mode-again, mode-small, next-again, read-blank, read-rise-again, setup-again, setup-small, shows-again, shows-blank, view-again, view-small, write-blank, write-rise-again}
+use Rattle.fifo_c.specs.Digits.{digitOf, isM, isSerial, modeDigit, readBefore, readRiseOf, setupDigit, shownOffset, showsOffset, viewDigit, writeBefore, writeRiseOf}
+use Rattle.fifo_c.specs.DigitsLaws.{level-again, level-small, method-again, mode-again, mode-small, next-again, read-blank, read-rise-again, setup-again, setup-small, shows-again, shows-blank, view-again, view-small, write-blank, write-rise-again}
 use Rattle.fifo_c.specs.Spelling.{blankElsewhere, countsOf, digits, enumsOf, fourLevels, halfAt, levelAt, levelsOf, lowFirst, lowFirstAt, offsetsIn, pair, readIn, readingIn, restOf, spelledDigits, spelling, spells, stateIn, writeIn}
 use Rattle.fifo_c.specs.SpellingLaws.{Bytes}
 
@@ -99,10 +99,9 @@ state-again s h =
 
 four-levels : (bytes : List ℕ) (i : ℕ) → getD bytes i 0 < 2 → getD bytes (i + 1) 0 < 2 → getD bytes (i + 2) 0 < 2 → getD bytes (i + 3) 0 < 2
     → fourLevels bytes i ≡ true
-unfolding fourLevels lowFirstAt
+unfolding fourLevels
 four-levels bytes i a b c d =
-    let four = lowFirstAt bytes i in
-    simp (lt-ltb (lowByte four) 2 (omega arith), lt-ltb (byteOf 8 four) 2 (omega arith), lt-ltb (byteOf 16 four) 2 (omega arith), lt-ltb (byteOf 24 four) 2 (omega arith))
+    simp (lt-ltb (getD bytes i 0) 2 a, lt-ltb (getD bytes (i + 1) 0) 2 b, lt-ltb (getD bytes (i + 2) 0) 2 c, lt-ltb (getD bytes (i + 3) 0) 2 d)
 
 all-levels : (s : State) → fourLevels (spelling s) 0 && fourLevels (spelling s) 4 && fourLevels (spelling s) 8 ≡ true
 unfolding spelling
@@ -230,17 +229,17 @@ all-fours s h =
     (levels .0, (levels .1 .0, (levels .1 .1 .0, (enums-bytes s h .0, counts))))
 
 module _ (part : Part) (s : State) (e : widths part s ≡ true) (counts : Counted s) where
-  h : Small s
-  h = small part s e counts
+  bounds : Small s
+  bounds = small part s e counts
 
   pub spelling-bytes : Bytes (spelling s)
   unfolding spelling
-  spelling-bytes = each-byte (spelling s) (in-order-bytes (levelsOf s ++ enumsOf s ++ countsOf s ++ restOf s) (all-fours s h))
+  spelling-bytes = each-byte (spelling s) (in-order-bytes (levelsOf s ++ enumsOf s ++ countsOf s ++ restOf s) (all-fours s bounds))
 
   -- a state that passes the widths, its counts of 16 bits, is read back as it was written
   pub read-back : Spelled (spelling s) s
   unfolding spells
-  read-back = record { own = simp (own-digits s, own-blanks s h); state = state-again s h }
+  read-back = record { own = simp (own-digits s, own-blanks s bounds); state = state-again s bounds }
 
 power-up-widths : widths Idt72V255LA poweredUp ≡ true
 power-up-widths = tested-widths Idt72V255LA poweredUp (power-up-passes Idt72V255LA)

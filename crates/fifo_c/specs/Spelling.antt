@@ -13,7 +13,7 @@ use Rattle.sides.specs.declared.read.ReadSide.{ReadSide}
 use Rattle.sides.specs.declared.write.WriteSide.{WriteSide}
 use Rattle.views.specs.Stages.{readRose, writeRose}
 use Rattle.fifo_c.specs.Bytes.{Four, byteOf, inOrder, lowByte}
-use Rattle.fifo_c.specs.Marks.{digitOf, isM, isSerial, levelOf, modeDigit, modeOf, nextOf, readBefore, readRiseOf, setupDigit, setupOf, shownOffset, showsOf, showsOffset, viewDigit, viewOf, writeBefore, writeRiseOf}
+use Rattle.fifo_c.specs.Digits.{digitOf, isM, isSerial, levelOf, modeDigit, modeOf, nextOf, readBefore, readRiseOf, setupDigit, setupOf, shownOffset, showsOf, showsOffset, viewDigit, viewOf, writeBefore, writeRiseOf}
 
 abbrev pub stateBytes : ℕ
 stateBytes = 48
@@ -118,9 +118,7 @@ stateIn bytes = record {
 
 -- four bytes that are levels
 unfoldable pub fourLevels : List ℕ → ℕ → Bool
-fourLevels bytes at =
-    let four = lowFirstAt bytes at in
-    ltb (lowByte four) 2 && ltb (byteOf 8 four) 2 && ltb (byteOf 16 four) 2 && ltb (byteOf 24 four) 2
+fourLevels bytes at = ltb (getD bytes at 0) 2 && ltb (getD bytes (at + 1) 0) 2 && ltb (getD bytes (at + 2) 0) 2 && ltb (getD bytes (at + 3) 0) 2
 
 unfoldable pub spelledDigits : List ℕ → Bool
 spelledDigits bytes =

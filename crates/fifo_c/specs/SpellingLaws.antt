@@ -1,8 +1,8 @@
--- The state's bytes: each state is read back as it was written, and what was read is written back as the same bytes.
+-- The state's bytes: what is written over them, and that what was read is written back as the same bytes.
 use Prim.Native.Nat.{ℕ, zero, suc, _+_, _^_, _<_}
 use mathlib.Core.Bool.{Bool, true, _&&_, _||_, and-eq-true-iff}
 use mathlib.Core.List.{List, [], _∷_}
-use mathlib.Core.Path.{_≡_, refl, sym, ap, subst, _∙_}
+use mathlib.Core.Path.{_≡_, refl, sym, ap, _∙_}
 use lib.Dec.{eqb, ltb}
 use lib.ListN.{getD, length}
 use borrow.Author.Tests.{eqb-true, ltb-true}
@@ -11,8 +11,8 @@ use Rattle.chip.specs.declared.state.State.{State}
 use Rattle.chip.specs.Quiet.{held}
 use Rattle.pins.specs.declared.record.Pins.{Pins}
 use Rattle.fifo_c.specs.Bytes.{byteOf, lowByte, putFour, putFours}
-use Rattle.fifo_c.specs.Marks.{digitOf, modeDigit, modeOf, readBefore, readRiseOf, setupDigit, setupOf, shownOffset, showsOf, viewDigit, viewOf, writeBefore, writeRiseOf}
-use Rattle.fifo_c.specs.MarksLaws.{digit-back, method-back, mode-back, next-back, offset-back, read-before-back, read-rose-back, setup-back, shown-back, view-back, write-before-back, write-rose-back}
+use Rattle.fifo_c.specs.Digits.{digitOf, modeDigit, modeOf, readBefore, readRiseOf, setupDigit, setupOf, shownOffset, showsOf, viewDigit, viewOf, writeBefore, writeRiseOf}
+use Rattle.fifo_c.specs.DigitsLaws.{digit-back, method-back, mode-back, next-back, offset-back, read-before-back, read-rose-back, setup-back, shown-back, view-back, write-before-back, write-rose-back}
 use Rattle.fifo_c.specs.Spelling.{blankElsewhere, countsOf, enumsOf, fourLevels, halfAt, levelAt, levelsOf, lowFirstAt, offsetsIn, putClocks, readIn, readingIn, restOf, spelledDigits, spelling, spells, stateBytes, stateIn, writeIn}
 
 -- the first elements of a list, one by one
@@ -79,20 +79,24 @@ record Levels (bytes : List ℕ) (i : ℕ) : Type 0 where
 both : (a b : Bool) → (a && b) ≡ true → (a ≡ true) × (b ≡ true)
 both a b = and-eq-true-iff a b .0
 
-levels : (bytes : List ℕ) (i : ℕ) → Bytes bytes → fourLevels bytes i ≡ true → Levels bytes i
+levels : (bytes : List ℕ) (i : ℕ) → fourLevels bytes i ≡ true → Levels bytes i
 unfolding fourLevels levelAt
-levels bytes i h e =
-    let four = lowFirstAt bytes i in
-    let c = both _ (ltb (byteOf 24 four) 2) e in
-    let b = both _ (ltb (byteOf 16 four) 2) (c .0) in
-    let a = both (ltb (lowByte four) 2) (ltb (byteOf 8 four) 2) (b .0) in
-    let below : (x : ℕ) → ltb x 2 ≡ true → x < 2 = λ x. ltb-true x 2 in
+levels bytes i e =
+    let fourth = both _ _ e in
+    let third = both _ _ (fourth .0) in
+    let second = both _ _ (third .0) in
     record {
-      first = digit-back _ (subst (λ (x : ℕ). x < 2) (first-byte bytes h i) (below _ (a .0)));
-      second = digit-back _ (subst (λ (x : ℕ). x < 2) (second-byte bytes h i) (below _ (a .1)));
-      third = digit-back _ (subst (λ (x : ℕ). x < 2) (third-byte bytes h i) (below _ (b .1)));
-      fourth = digit-back _ (subst (λ (x : ℕ). x < 2) (fourth-byte bytes h i) (below _ (c .1)));
+      first = digit-back _ (ltb-true _ 2 (second .0));
+      second = digit-back _ (ltb-true _ 2 (second .1));
+      third = digit-back _ (ltb-true _ 2 (third .1));
+      fourth = digit-back _ (ltb-true _ 2 (fourth .1));
     }
+
+-- the four at once, as one word
+pub levels-of-word : (bytes : List ℕ) (i : ℕ) → Bytes bytes
+    → let word = lowFirstAt bytes i in (ltb (lowByte word) 2 && ltb (byteOf 8 word) 2 && ltb (byteOf 16 word) 2 && ltb (byteOf 24 word) 2) ≡ fourLevels bytes i
+unfolding fourLevels
+levels-of-word bytes i h = rw (first-byte bytes h i, second-byte bytes h i, third-byte bytes h i, fourth-byte bytes h i) refl
 
 -- what a spelling says of its bytes
 record Own (bytes : List ℕ) : Type 0 where
@@ -107,22 +111,22 @@ record Own (bytes : List ℕ) : Type 0 where
   shown : shownOffset (showsOf (levelAt bytes 11) (halfAt bytes 40)) ≡ halfAt bytes 40
   blank : halfAt bytes 42 ≡ 0
 
-own : (bytes : List ℕ) → Bytes bytes → spells bytes ≡ true → Own bytes
+own : (bytes : List ℕ) → spells bytes ≡ true → Own bytes
 unfolding spells spelledDigits blankElsewhere
-own bytes h e =
+own bytes e =
     let all = both (spelledDigits bytes) (blankElsewhere bytes) e in
-    let mode = both _ (ltb (getD bytes 14 0) 3) (all .0) in
-    let setup = both _ (ltb (getD bytes 13 0) 3) (mode .0) in
-    let view = both _ (ltb (getD bytes 12 0) 3) (setup .0) in
-    let offsets = both _ (fourLevels bytes 8) (view .0) in
+    let mode = both _ _ (all .0) in
+    let setup = both _ _ (mode .0) in
+    let view = both _ _ (setup .0) in
+    let offsets = both _ _ (view .0) in
     let flags = both (fourLevels bytes 0) (fourLevels bytes 4) (offsets .0) in
-    let blank = both _ (eqb (halfAt bytes 42) 0) (all .1) in
-    let shown = both _ (levelAt bytes 11 || eqb (halfAt bytes 40) 0) (blank .0) in
+    let blank = both _ _ (all .1) in
+    let shown = both _ _ (blank .0) in
     let sides = both (levelAt bytes 4 || eqb (halfAt bytes 22) 0) (levelAt bytes 5 || eqb (halfAt bytes 30) 0) (shown .0) in
     record {
-      start = levels bytes 0 h (flags .0);
-      flags = levels bytes 4 h (flags .1);
-      offsets = levels bytes 8 h (offsets .1);
+      start = levels bytes 0 (flags .0);
+      flags = levels bytes 4 (flags .1);
+      offsets = levels bytes 8 (offsets .1);
       view = view-back _ (ltb-true _ 3 (view .1));
       setup = setup-back _ (ltb-true _ 3 (setup .1));
       mode = mode-back _ (ltb-true _ 3 (mode .1));
@@ -136,7 +140,7 @@ own bytes h e =
 pub written-back : (bytes : List ℕ) → length bytes ≡ stateBytes → Bytes bytes → spells bytes ≡ true → spelling (stateIn bytes) ≡ bytes
 unfolding spelling stateIn writeIn readIn offsetsIn readingIn
 written-back bytes room h e =
-    let o = own bytes h e in
+    let o = own bytes e in
     let a = o .start in
     let b = o .flags in
     let c = o .offsets in

@@ -6,6 +6,7 @@ ghost use Rattle.fifo_c.specs.Spelling.{halfAt, lowFirst, lowFirstAt, pa
 ghost use Rattle.pins.specs.Trace.{wordAt};
 ghost use lib.ListN.{length};
 ghost use mathlib.Core.Path.{_≡_};
+use super::wide::wide_half;
 
 pub(crate) fn word_at(bytes: &[u8], at: usize) -> u32
     requires { ⌜ at + 3 < length (now bytes) ⌝ }
@@ -25,7 +26,7 @@ pub(crate) fn half_at(bytes: &[u8], at: usize) -> u16
     requires { ⌜ at + 1 < length (now bytes) ⌝ }
     ensures { λ r. ⌜ r ≡ halfAt (now (bytes .entry)) at ⌝ }
 {
-    wide(bytes[at + 1]) * 256 + wide(bytes[at])
+    wide_half(bytes[at + 1]) * 256 + wide_half(bytes[at])
 }
 
 pub(crate) fn put_word(bytes: &mut [u8], at: usize, word: u32)
@@ -78,10 +79,4 @@ pub(crate) fn put_four(bytes: &mut [u8], at: usize, first: u8, second: u8, third
     bytes[at + 1] = second;
     bytes[at + 2] = third;
     bytes[at + 3] = fourth;
-}
-
-fn wide(byte: u8) -> u16
-    ensures { λ r. ⌜ (r ≡ byte) × (r < 256) ⌝ }
-{
-    byte as u16
 }

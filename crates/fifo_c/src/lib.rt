@@ -1,7 +1,7 @@
 // The model for C: one sample on numbers and byte buffers.
 pub mod bytes;
 pub mod call;
-pub mod marks;
+pub mod digits;
 pub mod memory;
 pub mod state;
 pub mod verdict;

@@ -9,7 +9,7 @@ use super::bytes::low_first_at;
 use super::bytes::put_four;
 use super::bytes::put_low_first;
 use super::bytes::put_pair;
-use super::marks;
+use super::digits;
 use chip::state::State;
 use counts::round::ReadCount;
 use counts::round::WriteCount;
@@ -18,7 +18,7 @@ use offsets::registers::Offsets;
 use sides::read::ReadSide;
 use sides::write::WriteSide;
 
-// Sixteen digits, eleven numbers of 16 bits and two of 32; two bytes are left over.
+// Fifteen digits and the number of serial bits, eleven numbers of 16 bits and two of 32; two bytes are left over.
 pub(crate) const STATE_BYTES: usize = 48;
 
 pub(crate) fn read_state(bytes: &[u8]) -> State
@@ -42,8 +42,8 @@ fn read_write_side(bytes: &[u8]) -> WriteSide
     requires { ⌜ length (now bytes) ≡ stateBytes ⌝ }
     ensures { λ r. ⌜ r ≡ writeIn (now (bytes .entry)) ⌝ }
 {
-    let latest = marks::read_rise(level_at(bytes, 4), half_at(bytes, 22));
-    let view = marks::view(bytes[12]);
+    let latest = digits::read_rise(level_at(bytes, 4), half_at(bytes, 22));
+    let view = digits::view(bytes[12]);
     WriteSide {
         level: level_at(bytes, 1),
         count: WriteCount(half_at(bytes, 16)),
@@ -60,9 +60,9 @@ fn read_read_side(bytes: &[u8]) -> ReadSide
     requires { ⌜ length (now bytes) ≡ stateBytes ⌝ }
     ensures { λ r. ⌜ r ≡ readIn (now (bytes .entry)) ⌝ }
 {
-    let latest = marks::write_rise(level_at(bytes, 5), half_at(bytes, 30));
-    let setup = marks::setup(bytes[13]);
-    let mode = marks::mode(bytes[14]);
+    let latest = digits::write_rise(level_at(bytes, 5), half_at(bytes, 30));
+    let setup = digits::setup(bytes[13]);
+    let mode = digits::mode(bytes[14]);
     ReadSide {
         level: level_at(bytes, 2),
         count: ReadCount(half_at(bytes, 24)),
@@ -80,8 +80,8 @@ fn read_offsets(bytes: &[u8]) -> Offsets
     requires { ⌜ length (now bytes) ≡ stateBytes ⌝ }
     ensures { λ r. ⌜ r ≡ offsetsIn (now (bytes .entry)) ⌝ }
 {
-    let method = marks::method(level_at(bytes, 8));
-    let next = marks::next(level_at(bytes, 9));
+    let method = digits::method(level_at(bytes, 8));
+    let next = digits::next(level_at(bytes, 9));
     Offsets {
         n: half_at(bytes, 32),
         m: half_at(bytes, 34),
@@ -96,8 +96,8 @@ fn read_reading(bytes: &[u8]) -> Reading
     requires { ⌜ length (now bytes) ≡ stateBytes ⌝ }
     ensures { λ r. ⌜ r ≡ readingIn (now (bytes .entry)) ⌝ }
 {
-    let next = marks::next(level_at(bytes, 10));
-    let shows = marks::shows(level_at(bytes, 11), half_at(bytes, 40));
+    let next = digits::next(level_at(bytes, 10));
+    let shows = digits::shows(level_at(bytes, 11), half_at(bytes, 40));
     Reading {
         next: next,
         shows: shows,
@@ -108,7 +108,7 @@ fn level_at(bytes: &[u8], at: usize) -> bool
     requires { ⌜ at < length (now bytes) ⌝ }
     ensures { λ r. ⌜ r ≡ levelAt (now (bytes .entry)) at ⌝ }
 {
-    marks::level(bytes[at])
+    digits::level(bytes[at])
 }
 
 pub(crate) fn spells_state(bytes: &[u8]) -> bool
@@ -180,18 +180,18 @@ fn put_levels(s: State, bytes: &mut [u8])
     put_four_levels(
         bytes,
         4,
-        marks::has_read_rise(read_rise),
-        marks::has_write_rise(write_rise),
+        digits::has_read_rise(read_rise),
+        digits::has_write_rise(write_rise),
         write.paf,
         read.pae,
     );
     put_four_levels(
         bytes,
         8,
-        marks::is_serial(method),
-        marks::is_m(to_load),
-        marks::is_m(to_read),
-        marks::has_offset(shows),
+        digits::is_serial(method),
+        digits::is_m(to_load),
+        digits::is_m(to_read),
+        digits::has_offset(shows),
     );
 }
 
@@ -209,10 +209,10 @@ fn put_four_levels(
     put_four(
         bytes,
         at,
-        marks::digit(first),
-        marks::digit(second),
-        marks::digit(third),
-        marks::digit(fourth),
+        digits::digit(first),
+        digits::digit(second),
+        digits::digit(third),
+        digits::digit(fourth),
     );
 }
 
@@ -228,9 +228,9 @@ fn put_enums(s: State, bytes: &mut [u8])
     put_four(
         bytes,
         12,
-        marks::view_digit(view),
-        marks::setup_digit(setup),
-        marks::mode_digit(mode),
+        digits::view_digit(view),
+        digits::setup_digit(setup),
+        digits::mode_digit(mode),
         s.offsets.count,
     );
 }
@@ -244,9 +244,9 @@ fn put_counts(s: State, bytes: &mut [u8])
     let read_rise = write.latest;
     let write_rise = read.latest;
     put_pair(bytes, 16, s.write.count.0, s.write.first.0);
-    put_pair(bytes, 20, s.write.second.0, marks::read_before(read_rise));
+    put_pair(bytes, 20, s.write.second.0, digits::read_before(read_rise));
     put_pair(bytes, 24, s.read.count.0, s.read.first.0);
-    put_pair(bytes, 28, s.read.second.0, marks::write_before(write_rise));
+    put_pair(bytes, 28, s.read.second.0, digits::write_before(write_rise));
 }
 
 fn put_rest(s: State, bytes: &mut [u8])
@@ -257,15 +257,15 @@ fn put_rest(s: State, bytes: &mut [u8])
     let shows = reading.shows;
     put_pair(bytes, 32, s.offsets.n, s.offsets.m);
     put_low_first(bytes, 36, s.offsets.serial);
-    put_pair(bytes, 40, marks::shown_offset(shows), 0);
+    put_pair(bytes, 40, digits::shown_offset(shows), 0);
     put_low_first(bytes, 44, s.read.output);
 }
 
-// All that a sample changes in which no clock rises.
+// All that a sample outside reset changes in which no clock rises.
 pub(crate) fn put_clocks(wclk: bool, rclk: bool, bytes: &mut [u8])
     requires { ⌜ length (now bytes) ≡ stateBytes ⌝ }
     ensures { λ _. ⌜ now (bytes .exit) ≡ putClocks wclk rclk (now (bytes .entry)) ⌝ }
 {
-    bytes[1] = marks::digit(wclk);
-    bytes[2] = marks::digit(rclk);
+    bytes[1] = digits::digit(wclk);
+    bytes[2] = digits::digit(rclk);
 }

@@ -61,7 +61,7 @@ length-by (Refuse number) state memory answer = refl
 -- the buffers spell the moment
 pub record Spells (part : Part) (b : Buffers) (m : Moment) : Type 0 where
   pub spells : Spelled (b .state) (m .state)
-  pub spelled : length (b .state) ≡ stateBytes
+  pub long : length (b .state) ≡ stateBytes
   pub bytes : Bytes (b .state)
   pub whole : length (b .memory) ≡ memoryBytes part
   pub words : wordsIn (b .memory) ≡ m .memory
@@ -109,7 +109,7 @@ module _ (part : Part) where
       as-outcome =
           let both = and-eq-true-iff (eqb (length (a .bytes)) wordSize) (eqb (length (a .room)) answerBytes) .0 is in
           rw (← g .words, ← g .spells .state)
-          (call-is-sample (numberOf part) (a .bytes) (b .state) (b .memory) (a .room) (g .spells .own) (g .spelled) (g .bytes)
+          (call-is-sample (numberOf part) (a .bytes) (b .state) (b .memory) (a .room) (g .spells .own) (g .long) (g .bytes)
           (eqb-true _ _ (both .0)) (omega (arith, g .whole)) (eqb-true _ _ (both .1)))
 
       -- the answer found in the room of a call that is taken
@@ -129,7 +129,7 @@ module _ (part : Part) where
       unfolding callOn callOf called next
       spells-next = record {
         spells = as-outcome .state;
-        spelled = rw (as-outcome .spelled) (spelling-length (outcome part m (wordAt (a .bytes) 0) .sampled .state));
+        long = rw (as-outcome .spelled) (spelling-length (outcome part m (wordAt (a .bytes) 0) .sampled .state));
         bytes = as-outcome .bytes;
         whole = length-by (judged (numberOf part) (a .bytes) (b .state) (length (b .memory)) (length (a .room))) (b .state) (b .memory) (a .room)
             ∙ g .whole;
@@ -157,7 +157,7 @@ module _ (part : Part) where
   unfolding poweredOn powered powerUp
   powered-spells state memory room whole = rw (eq-eqb (length state) stateBytes room) (record {
     spells = power-up-read;
-    spelled = spelling-length poweredUp;
+    long = spelling-length poweredUp;
     bytes = power-up-bytes;
     whole = whole;
     words = refl;

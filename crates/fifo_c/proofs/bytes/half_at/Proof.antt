@@ -5,7 +5,7 @@ use Rattle.fifo_c.proofs.bytes.half_at.Tie as tie
 
 returns : tie.Need-returns
 unfolding halfAt
-returns c = simp (c .wide2 .ensures .0, c .before .before .wide .ensures .0)
+returns c = simp (c .wide-half2 .ensures .0, c .before .before .wide-half .ensures .0)
 
 pub half-at-spec : {M : Type 1} → statement M
 half-at-spec =

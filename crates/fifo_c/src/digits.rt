@@ -1,5 +1,5 @@
 // The state's levels and enums as digits, each a byte, and back.
-ghost use Rattle.fifo_c.specs.Marks.{digitOf, isM, isSerial, levelOf, modeDigit, modeOf, nextOf, readBefore, readRiseOf, setupDigit, setupOf, shownOffset, showsOf, showsOffset, viewDigit, viewOf, writeBefore, writeRiseOf};
+ghost use Rattle.fifo_c.specs.Digits.{digitOf, isM, isSerial, levelOf, modeDigit, modeOf, nextOf, readBefore, readRiseOf, setupDigit, setupOf, shownOffset, showsOf, showsOffset, viewDigit, viewOf, writeBefore, writeRiseOf};
 ghost use Rattle.offsets.specs.Registers.{methodOf};
 ghost use Rattle.views.specs.Stages.{readRose, writeRose};
 ghost use mathlib.Core.Path.{_≡_};

@@ -23,7 +23,7 @@ use Rattle.views.specs.declared.stages.ReadRise.the-variants as readRise
 use Rattle.views.specs.declared.stages.WriteRise.{WriteRise}
 use Rattle.views.specs.declared.stages.WriteRise.the-variants as writeRise
 use Rattle.views.specs.Stages.{readRose, writeRose}
-use Rattle.fifo_c.specs.Marks.{digitOf, isM, isSerial, levelOf, modeDigit, modeOf, nextOf, readBefore, readRiseOf, setupDigit, setupOf, shownOffset, showsOf, showsOffset, viewDigit, viewOf, writeBefore, writeRiseOf}
+use Rattle.fifo_c.specs.Digits.{digitOf, isM, isSerial, levelOf, modeDigit, modeOf, nextOf, readBefore, readRiseOf, setupDigit, setupOf, shownOffset, showsOf, showsOffset, viewDigit, viewOf, writeBefore, writeRiseOf}
 
 -- read back as it was written
 pub level-again : (level : Bool) → levelOf (digitOf level) ≡ level

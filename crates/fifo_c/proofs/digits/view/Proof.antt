@@ -1,6 +1,6 @@
 use borrow.Author.Tests.{eq-eqb, ne-eqb}
-use Rattle.fifo_c.proofs.marks.view.Statement.{statement}
-use Rattle.fifo_c.proofs.marks.view.Tie as tie
+use Rattle.fifo_c.proofs.digits.view.Statement.{statement}
+use Rattle.fifo_c.proofs.digits.view.Tie as tie
 
 returns : tie.Need-returns
 returns c = simp (eq-eqb _ _ (c .if1 .taken))

@@ -1,5 +1,5 @@
-use Rattle.fifo_c.proofs.marks.read_rise.Statement.{statement}
-use Rattle.fifo_c.proofs.marks.read_rise.Tie as tie
+use Rattle.fifo_c.proofs.digits.read_rise.Statement.{statement}
+use Rattle.fifo_c.proofs.digits.read_rise.Tie as tie
 
 returns : tie.Need-returns
 returns c = simp (c .if1 .taken)

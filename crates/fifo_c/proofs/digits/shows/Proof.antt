@@ -1,5 +1,5 @@
-use Rattle.fifo_c.proofs.marks.shows.Statement.{statement}
-use Rattle.fifo_c.proofs.marks.shows.Tie as tie
+use Rattle.fifo_c.proofs.digits.shows.Statement.{statement}
+use Rattle.fifo_c.proofs.digits.shows.Tie as tie
 
 returns : tie.Need-returns
 returns c = simp (c .if1 .taken)
