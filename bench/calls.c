@@ -120,6 +120,10 @@ static void print_tables(struct job *job)
 int main(int count, char **arguments)
 {
     struct row cost[MODELS];
+    if (count != 1 && count != 1 + PARTS && count != 1 + 2 * PARTS) {
+        fputs("usage: calls [RUST-255 RUST-265 [PLAIN-255 PLAIN-265]]\n", stderr);
+        return 2;
+    }
     struct job job = new_job(LONGEST);
     measure(&job, cost);
     print_ratios(cost);
