@@ -1,6 +1,5 @@
 pub mod State
 pub mod Reset
-pub mod Refuse
 pub mod Answer
 pub mod Advance
 pub mod Quiet
@@ -9,8 +8,6 @@ pub mod Widths
 pub mod Counted
 pub mod Laws
 pub mod ResetLaws
-pub mod ReachLaws
 pub mod SinceReset
-pub mod RefusalLaws
 pub mod Unique
 pub mod ThreeLaws

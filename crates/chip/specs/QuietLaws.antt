@@ -1,4 +1,4 @@
--- A sample outside reset in which no clock rises: nothing but 5 refuses it, and only the two levels change.
+-- A sample outside reset in which no clock rises: only the two levels change.
 use Prim.Native.Nat.{ℕ}
 use mathlib.Core.Bool.{Bool, true, false, not, cond, _&&_, _||_, and-eq-true-iff, and-false}
 use mathlib.Core.Path.{_≡_, refl}
@@ -17,39 +17,18 @@ use Rattle.chip.specs.declared.state.State.{State}
 use Rattle.chip.specs.Advance.{advanced, running, stateAfter, storeOf}
 use Rattle.chip.specs.Answer.{answerOf, linesOf}
 use Rattle.chip.specs.Quiet.{clockRises, held, quiet}
-use Rattle.chip.specs.Refuse.{fromSix, refusalOf, refusesEight, refusesFive, refusesNine, refusesSeven, refusesSix, refusesTen}
 
 -- neither clock rises
-record NoRise (p : Pins) (s : State) : Type 0 where
-  write : writeRises p (s .write) ≡ false
-  read : readRises p (s .read) ≡ false
+pub record NoRise (p : Pins) (s : State) : Type 0 where
+  pub write : writeRises p (s .write) ≡ false
+  pub read : readRises p (s .read) ≡ false
 
 no-rise-by : (write read : Bool) → (write || read) ≡ false → (write ≡ false) × (read ≡ false)
 no-rise-by false read e = (refl, e)
 no-rise-by true read e = (e, cc)
 
-no-rise : (p : Pins) (s : State) → clockRises p s ≡ false → NoRise p s
+pub no-rise : (p : Pins) (s : State) → clockRises p s ≡ false → NoRise p s
 no-rise p s e = let both = no-rise-by (writeRises p (s .write)) (readRises p (s .read)) e in record { write = both .0; read = both .1 }
-
-none-refused : (part : Part) (p : Pins) (s : State) → NoRise p s → fromSix part p s ≡ 0
-unfolding refusesSix refusesSeven refusesEight refusesNine refusesTen retransmits
-none-refused part p s e = simp (e .write, e .read)
-
-past-by : (outside rises : Bool) (number : ℕ) → (rises ≡ false → number ≡ 0) → cond outside number 0 ≡ cond (outside && rises) number 0
-past-by true true number none = refl
-past-by true false number none = none refl
-past-by false rises number none = refl
-
-pub past-five : (part : Part) (p : Pins) (s : State) → refusesFive p s ≡ false
-    → refusalOf part p s ≡ cond (p .mrs && p .prs && clockRises p s) (fromSix part p s) 0
-unfolding refusalOf
-past-five part p s e = simp e (past-by (p .mrs && p .prs) (clockRises p s) (fromSix part p s) (λ f. none-refused part p s (no-rise p s f)))
-
-pub quiet-free : (part : Part) (p : Pins) (s : State) → s .started ≡ true → quiet p s ≡ true → refusalOf part p s ≡ 0
-unfolding quiet
-quiet-free part p s started e =
-    let calm = not-true (clockRises p s) (and-eq-true-iff (p .mrs && p .prs) (not (clockRises p s)) .0 e .1) in
-    simp (past-five part p s (simp started), calm, and-false)
 
 running-held : (part : Part) (p : Pins) (fetched : ℕ) (s : State) → NoRise p s → running part p fetched s ≡ held p s
 unfolding running held offsetsAfter readingAfter retransmits

@@ -23,7 +23,6 @@ use Rattle.views.specs.declared.retransmit.View.the-variants.{Seen}
 use Rattle.chip.specs.declared.state.State.{State}
 use Rattle.chip.specs.Advance.{memoryAfter, stateAfter, storeOf}
 use Rattle.chip.specs.Answer.{linesOf}
-use Rattle.chip.specs.Refuse.{refusalOf}
 use Rattle.chip.specs.Reset.{cleared, keptMode, masterReset, partialReset, poweredUp, selectedMode}
 use Rattle.chip.specs.State.{inReach, passes, widths}
 
@@ -82,11 +81,6 @@ reset-levels started wclk rclk mode o reading = (refl, refl, refl, refl)
 pub memory-stays : (part : Part) (p : Pins) (s : State) (memory : List ℕ) → p .mrs && p .prs ≡ false → memoryAfter part p s memory ≡ memory
 unfolding memoryAfter storeOf
 memory-stays part p s memory e = simp e
-
--- What is turned away: 6 to 10 do not apply in a reset
-pub reset-taken : (part : Part) (p : Pins) (s : State) → s .started ≡ true → p .mrs && p .prs ≡ false → refusalOf part p s ≡ 0
-unfolding refusalOf
-reset-taken part p s f e = simp (f, e)
 
 pub power-up-passes : (part : Part) → passes part poweredUp ≡ true
 unfolding passes widths inReach poweredUp cleared fit defaults

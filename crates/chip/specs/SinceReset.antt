@@ -1,24 +1,17 @@
--- What is turned away, 9: judged by the true number of words accepted since reset, however large.
-use Prim.Native.Nat.{ℕ, _+_, _<_}
-use mathlib.Core.Bool.{Bool, true, false, cond, _&&_, _||_}
-use mathlib.Core.Path.{_≡_, refl}
-use lib.Dec.{eqb, ltb}
-use native.Mathlib.Omega.{arith}
+-- What is turned away, 9, on the words accepted since reset: the write side keeps their true number, however large.
+use Prim.Native.Nat.{ℕ, _+_}
+use mathlib.Core.Bool.{Bool, true, false, cond}
+use mathlib.Core.Path.{refl}
 use Rattle.counts.specs.declared.part.Part.{Part}
-use Rattle.counts.specs.declared.part.Part.the-variants.{Idt72V255LA, Idt72V265LA}
 use Rattle.counts.specs.Part.{depthOf}
-use Rattle.counts.specs.Round.{width}
 use Rattle.offsets.specs.declared.reading.Reading.{Reading}
 use Rattle.offsets.specs.declared.registers.Offsets.{Offsets}
 use Rattle.pins.specs.declared.record.Pins.{Pins}
 use Rattle.sides.specs.declared.read.Mode.{Mode}
-use Rattle.sides.specs.declared.read.Mode.the-variants.{Standard, Fwft}
-use Rattle.sides.specs.Read.{retransmits}
-use Rattle.sides.specs.SinceReset.{Tallies, more-exact, none-exact, tallies-after}
+use Rattle.sides.specs.SinceReset.{Tallies, tallies-after}
 use Rattle.sides.specs.Write.{accepts}
 use Rattle.chip.specs.declared.state.State.{State}
 use Rattle.chip.specs.Advance.{running, stateAfter}
-use Rattle.chip.specs.Refuse.{refusesNine, retransmitMost}
 use Rattle.chip.specs.Reset.{cleared, masterReset, partialReset, poweredUp}
 
 -- words accepted since reset, after one more sample
@@ -49,19 +42,3 @@ tally-stays accepted part p fetched s t =
     (running part p fetched s) (partialReset p s) (masterReset p)
     (tallies-after accepted (depthOf part) (s .offsets .m) p (s .read) (s .write) t)
     (cleared-tallies _ _ _ _ _ _) (cleared-tallies _ _ _ _ _ _)
-
-most-below : (part : Part) (mode : Mode) → retransmitMost (depthOf part) mode < width
-most-below Idt72V255LA Standard = omega arith
-most-below Idt72V255LA (Fwft untaken) = omega arith
-most-below Idt72V265LA Standard = omega arith
-most-below Idt72V265LA (Fwft untaken) = omega arith
-
-pub nine-exact : (accepted : ℕ) (part : Part) (p : Pins) (s : State) → Tallies accepted (s .write)
-    → refusesNine (depthOf part) p s
-    ≡ retransmits p (s .read) && (eqb accepted 0 || ltb (retransmitMost (depthOf part) (s .read .mode)) accepted)
-unfolding refusesNine
-nine-exact accepted part p s t =
-    rw (
-      none-exact accepted (s .write) t,
-      more-exact (retransmitMost (depthOf part) (s .read .mode)) accepted (s .write) (most-below part (s .read .mode)) t,
-    )

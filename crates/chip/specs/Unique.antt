@@ -7,7 +7,6 @@ use Rattle.pins.specs.declared.record.Pins.{Pins}
 use Rattle.chip.specs.declared.advance.Advanced.{Advanced}
 use Rattle.chip.specs.declared.state.State.{State}
 use Rattle.chip.specs.Advance.{Advances}
-use Rattle.chip.specs.Refuse.{Refuses}
 use Rattle.chip.specs.Reset.{PoweredUp}
 use Rattle.chip.specs.State.{Tested}
 
@@ -16,9 +15,6 @@ power-up-unique a b e f = e ∙ sym f
 
 pub test-unique : (part : Part) (s : State) (a b : Bool) → Tested part s a → Tested part s b → a ≡ b
 test-unique part s a b e f = e ∙ sym f
-
-pub refusal-unique : (part : Part) (p : Pins) (s : State) (a b : ℕ) → Refuses part p s a → Refuses part p s b → a ≡ b
-refusal-unique part p s a b e f = e ∙ sym f
 
 pub advance-unique : (part : Part) (p : Pins) (fetched : ℕ) (s : State) (a b : Advanced)
     → Advances part p fetched s a → Advances part p fetched s b → a ≡ b

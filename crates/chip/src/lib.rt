@@ -1,7 +1,6 @@
-// The chip by value: one sample's refusal, and what an accepted sample gives.
+// The chip by value: its state and that state's test, the resets, and what an accepted sample gives.
 pub mod advance;
 pub mod answer;
 pub mod quiet;
-pub mod refuse;
 pub mod reset;
 pub mod state;

@@ -4,7 +4,7 @@ ghost use mathlib.Core.Path.{_≡_};
 use super::state::State;
 use pins::record::Pins;
 
-pub(crate) fn clock_rises(p: Pins, s: State) -> bool
+pub fn clock_rises(p: Pins, s: State) -> bool
     ensures { λ r. ⌜ r ≡ clockRises p s ⌝ }
 {
     sides::clocks::write_rises(p, s.write) | sides::clocks::read_rises(p, s.read)

@@ -8,7 +8,7 @@ use lib.ListN.{getD, length}
 use Rattle.chip.specs.declared.advance.Advanced.{Advanced}
 use Rattle.chip.specs.declared.state.State.{State}
 use Rattle.chip.specs.Advance.{advanced, stored}
-use Rattle.chip.specs.Refuse.{refusalOf}
+use Rattle.refusals.specs.Refuse.{refusalOf}
 use Rattle.chip.specs.State.{passes}
 use Rattle.counts.specs.declared.part.Part.{Part}
 use Rattle.counts.specs.Part.{byPart, depthOf, partOf}

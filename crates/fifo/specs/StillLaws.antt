@@ -8,7 +8,8 @@ use Rattle.chip.specs.declared.advance.Store.the-variants.{Keep}
 use Rattle.chip.specs.declared.state.State.{State}
 use Rattle.chip.specs.Answer.{answerOf}
 use Rattle.chip.specs.Quiet.{held, quiet}
-use Rattle.chip.specs.QuietLaws.{quiet-advanced, quiet-free}
+use Rattle.chip.specs.QuietLaws.{quiet-advanced}
+use Rattle.refusals.specs.FreeLaws.{quiet-free}
 use Rattle.counts.specs.declared.part.Part.{Part}
 use Rattle.pins.specs.Record.{bit, pinsOf}
 use Rattle.fifo.specs.Sample.{fetchedFor, recordRefusal, stepped, taken, took}

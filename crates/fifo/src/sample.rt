@@ -97,7 +97,7 @@ pub fn refuse_record(part: Part, record: u32, state: State) -> u8
     if is_bit_18_set(record) {
         4
     } else {
-        chip::refuse::refusal(part, pins::record::decode(record), state)
+        refusals::refuse::refusal(part, pins::record::decode(record), state)
     }
 }
 

@@ -8,7 +8,7 @@ use mathlib.Core.Path.{_≡_, refl, sym, _∙_}
 use lib.Dec.{eqb}
 use lib.ListN.{length}
 use borrow.Author.Tests.{eq-eqb, eqb-true, ne-eqb}
-use Rattle.chip.specs.Refuse.{refusalOf}
+use Rattle.refusals.specs.Refuse.{refusalOf}
 use Rattle.chip.specs.State.{passes}
 use Rattle.counts.specs.declared.part.Lookup.the-variants.{Known}
 use Rattle.counts.specs.declared.part.Part.{Part}

@@ -12,7 +12,7 @@ use Rattle.chip.specs.declared.state.State.{State}
 use Rattle.chip.specs.Advance.{advanced}
 use Rattle.chip.specs.Answer.{answerOf}
 use Rattle.chip.specs.Laws.{flags-given, shown-given}
-use Rattle.chip.specs.ReachLaws.{reached-passes}
+use Rattle.refusals.specs.ReachLaws.{reached-passes}
 use Rattle.chip.specs.State.{widths}
 use Rattle.chip.specs.Widths.{tested-widths}
 use Rattle.counts.specs.declared.part.Part.{Part}

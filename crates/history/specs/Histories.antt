@@ -12,7 +12,7 @@ use mathlib.Core.Path.{_≡_, refl, sym, ap, subst, _∙_}
 use lib.ListN.{drop, length, length-replicate, take}
 use native.Mathlib.Omega.{arith}
 use Rattle.chip.specs.declared.state.State.{State}
-use Rattle.chip.specs.ReachLaws.{reached-passes}
+use Rattle.refusals.specs.ReachLaws.{reached-passes}
 use Rattle.chip.specs.State.{passes, wordsHeld}
 use Rattle.counts.specs.declared.part.Part.{Part}
 use Rattle.counts.specs.declared.part.Part.the-variants.{Idt72V255LA}

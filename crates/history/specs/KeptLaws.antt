@@ -3,7 +3,7 @@ use Prim.Native.Nat.{ℕ, _-_, _≤_}
 use mathlib.Core.Path.{_≡_, sym, ap, _∙_}
 use lib.ListN.{drop, length, take}
 use native.Mathlib.Omega.{arith}
-use Rattle.chip.specs.ReachLaws.{words-held}
+use Rattle.refusals.specs.ReachLaws.{words-held}
 use Rattle.chip.specs.State.{wordsHeld}
 use Rattle.counts.specs.declared.part.Part.{Part}
 use Rattle.counts.specs.Part.{depthOf}

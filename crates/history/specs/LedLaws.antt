@@ -11,8 +11,8 @@ use native.Mathlib.Omega.{arith}
 use Rattle.chip.specs.declared.advance.Advanced.{Advanced}
 use Rattle.chip.specs.declared.state.State.{State}
 use Rattle.chip.specs.Advance.{advanced}
-use Rattle.chip.specs.ReachLaws.{countsAfter, power-up-reached, reach-stays, reached-passes}
-use Rattle.chip.specs.Refuse.{refusalOf, refusesEight, refusesFive, refusesNine, refusesSeven, refusesSix, refusesTen}
+use Rattle.refusals.specs.ReachLaws.{countsAfter, power-up-reached, reach-stays, reached-passes}
+use Rattle.refusals.specs.Refuse.{refusalOf, refusesEight, refusesFive, refusesNine, refusesSeven, refusesSix, refusesTen}
 use Rattle.chip.specs.Reset.{cleared, poweredUp}
 use Rattle.counts.specs.declared.part.Part.{Part}
 use Rattle.counts.specs.Part.{depthOf, numberOf}

@@ -10,7 +10,7 @@ use native.Mathlib.Nat.{add-zero, zero-add}
 use native.Mathlib.Omega.{arith}
 use Rattle.chip.specs.Answer.{answerOf}
 use Rattle.chip.specs.Laws.{answer-whole}
-use Rattle.chip.specs.ReachLaws.{reached-passes}
+use Rattle.refusals.specs.ReachLaws.{reached-passes}
 use Rattle.counts.specs.declared.part.Part.{Part}
 use Rattle.counts.specs.PartLaws.{own-number}
 use Rattle.fifo.specs.declared.sample.Outcome.{Outcome}

@@ -7,7 +7,7 @@ use mathlib.Core.Path.{_≡_, refl, sym, ap, subst, _∙_}
 use lib.ListN.{length, take}
 use native.Mathlib.Nat.{zero-add}
 use native.Mathlib.Omega.{arith}
-use Rattle.chip.specs.ReachLaws.{reached-passes}
+use Rattle.refusals.specs.ReachLaws.{reached-passes}
 use Rattle.counts.specs.declared.part.Part.{Part}
 use Rattle.counts.specs.PartLaws.{own-number}
 use Rattle.fifo.specs.Run.{Ended, Progress, atEnd, ended, folded, noted, roomy, runOf, started, stops, worked}

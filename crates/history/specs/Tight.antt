@@ -6,7 +6,7 @@ use mathlib.Core.Path.{_≡_, refl}
 use lib.ListN.{length, replicate}
 use Rattle.chip.specs.Advance.{advanced, running, stateAfter, storeOf}
 use Rattle.chip.specs.Answer.{answerOf, linesOf}
-use Rattle.chip.specs.Refuse.{refusalOf, refusesEight, refusesNine, refusesSeven, refusesSix, refusesTen}
+use Rattle.refusals.specs.Refuse.{refusalOf, refusesEight, refusesNine, refusesSeven, refusesSix, refusesTen}
 use Rattle.chip.specs.Reset.{cleared, masterReset, partialReset, poweredUp}
 use Rattle.chip.specs.State.{inReach, passes, widths}
 use Rattle.counts.specs.declared.part.Part.the-variants.{Idt72V255LA}

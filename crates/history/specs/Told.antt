@@ -1,7 +1,7 @@
 -- What holds between the model and the onlooker's notes at every moment from power-up on.
 use mathlib.Core.Path.{_≡_}
 use lib.ListN.{length, take}
-use Rattle.chip.specs.ReachLaws.{Reached}
+use Rattle.refusals.specs.ReachLaws.{Reached}
 use Rattle.chip.specs.ResetLaws.{isFwft}
 use Rattle.counts.specs.declared.part.Part.{Part}
 use Rattle.counts.specs.Part.{depthOf}

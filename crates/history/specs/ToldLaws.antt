@@ -9,7 +9,7 @@ use Rattle.chip.specs.declared.advance.Store.{Store}
 use Rattle.chip.specs.declared.advance.Store.the-variants.{Keep}
 use Rattle.chip.specs.declared.state.State.{State}
 use Rattle.chip.specs.Advance.{advanced, running, stateAfter, storeOf, stored}
-use Rattle.chip.specs.ReachLaws.{countsAfter}
+use Rattle.refusals.specs.ReachLaws.{countsAfter}
 use Rattle.chip.specs.Reset.{cleared, keptMode, masterReset, partialReset, selectedMode}
 use Rattle.chip.specs.ResetLaws.{isFwft}
 use Rattle.counts.specs.declared.part.Part.{Part}

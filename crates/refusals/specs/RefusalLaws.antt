@@ -15,9 +15,9 @@ use Rattle.sides.specs.Read.{retransmits}
 use Rattle.sides.specs.SinceReset.{Tallies}
 use Rattle.sides.specs.Tracks.{Allowed}
 use Rattle.views.specs.TrueCounts.{TrueCounts}
 use Rattle.chip.specs.declared.state.State.{State}
-use Rattle.chip.specs.Refuse.{refusalOf, refusesEight, refusesFive, refusesNine, refusesSeven, refusesSix, refusesTen, retransmitMost}
-use Rattle.chip.specs.SinceReset.{nine-exact}
+use Rattle.refusals.specs.Refuse.{refusalOf, refusesEight, refusesFive, refusesNine, refusesSeven, refusesSix, refusesTen, retransmitMost}
+use Rattle.refusals.specs.NineLaws.{nine-exact}
 
 never : (applies : Bool) (found number : ℕ) → found ≡ 0 → (applies ≡ true → found ≡ suc number) → applies ≡ false
 never true found number e comes = absurd (omega (arith, comes refl))

@@ -1,8 +1,8 @@
-use Rattle.chip.specs.Refuse.{refusesSeven, refusesSix}
+use Rattle.refusals.specs.Refuse.{refusesSeven, refusesSix}
 use borrow.Author.Needs.{needs}
 use mathlib.Core.Bool.{and-false}
-use Rattle.chip.proofs.refuse.refuse_rise.Statement.{statement}
-use Rattle.chip.proofs.refuse.refuse_rise.Tie as tie
+use Rattle.refusals.proofs.refuse.refuse_rise.Statement.{statement}
+use Rattle.refusals.proofs.refuse.refuse_rise.Tie as tie
 
 returns : tie.Need-returns
 unfolding refusesSix refusesSeven

@@ -1,7 +1,7 @@
-use Rattle.chip.specs.Refuse.{refusesEight}
+use Rattle.refusals.specs.Refuse.{refusesEight}
 use borrow.Author.Needs.{needs}
-use Rattle.chip.proofs.refuse.refuses_eight.Statement.{statement}
-use Rattle.chip.proofs.refuse.refuses_eight.Tie as tie
+use Rattle.refusals.proofs.refuse.refuses_eight.Statement.{statement}
+use Rattle.refusals.proofs.refuse.refuses_eight.Tie as tie
 
 returns : tie.Need-returns
 unfolding refusesEight

@@ -1,8 +1,8 @@
 use native.Mathlib.Omega.{arith}
 use Rattle.counts.specs.PartLaws.{two-at-least}
 use borrow.Author.Needs.{needs}
-use Rattle.chip.proofs.refuse.retransmit_most.Statement.{statement}
-use Rattle.chip.proofs.refuse.retransmit_most.Tie as tie
+use Rattle.refusals.proofs.refuse.retransmit_most.Statement.{statement}
+use Rattle.refusals.proofs.refuse.retransmit_most.Tie as tie
 
 sub-result : tie.Need-sub-result
 sub-result c = omega (arith, c .before .before .depth .ensures, two-at-least (c .before .before .before .args .part))

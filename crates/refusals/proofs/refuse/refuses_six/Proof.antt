@@ -1,7 +1,7 @@
-use Rattle.chip.specs.Refuse.{refusesSix}
+use Rattle.refusals.specs.Refuse.{refusesSix}
 use borrow.Author.Needs.{needs}
-use Rattle.chip.proofs.refuse.refuses_six.Statement.{statement}
-use Rattle.chip.proofs.refuse.refuses_six.Tie as tie
+use Rattle.refusals.proofs.refuse.refuses_six.Statement.{statement}
+use Rattle.refusals.proofs.refuse.refuses_six.Tie as tie
 
 returns : tie.Need-returns
 unfolding refusesSix

@@ -19,14 +19,14 @@ use Rattle.sides.specs.DecisionLaws.{left-behind}
 use Rattle.sides.specs.Tracks.{Tracks, Owes, trueAfter}
 use Rattle.views.specs.OrderLaws.{ordered-reset}
 use Rattle.views.specs.TrueCounts.{TrueCounts, noCounts}
 use Rattle.chip.specs.declared.state.State.{State}
 use Rattle.chip.specs.Advance.{advanced, running, stateAfter}
-use Rattle.chip.specs.Refuse.{refusalOf}
-use Rattle.chip.specs.RefusalLaws.{allowed}
+use Rattle.refusals.specs.Refuse.{refusalOf}
+use Rattle.refusals.specs.RefusalLaws.{allowed}
 use Rattle.chip.specs.Reset.{cleared, masterReset, partialReset, poweredUp}
 use Rattle.chip.specs.ResetLaws.{power-up-passes}
 use Rattle.chip.specs.State.{inReach, passes, widths, wordsHeld}
 use Rattle.chip.specs.Widths.{tested-widths, widths-stay}
 
 pub record Reached (part : Part) (s : State) (t : TrueCounts) : Type 0 where
   pub tracks : Tracks (depthOf part) (s .write) (s .read) t

@@ -1,7 +1,7 @@
-use Rattle.chip.specs.Refuse.{refusesNine}
+use Rattle.refusals.specs.Refuse.{refusesNine}
 use borrow.Author.Needs.{needs}
-use Rattle.chip.proofs.refuse.refuses_nine.Statement.{statement}
-use Rattle.chip.proofs.refuse.refuses_nine.Tie as tie
+use Rattle.refusals.proofs.refuse.refuses_nine.Statement.{statement}
+use Rattle.refusals.proofs.refuse.refuses_nine.Tie as tie
 
 returns : tie.Need-returns
 unfolding refusesNine

@@ -1,9 +1,9 @@
-use Rattle.chip.specs.Refuse.{refusalOf}
-use Rattle.chip.specs.QuietLaws.{past-five}
+use Rattle.refusals.specs.Refuse.{refusalOf}
+use Rattle.refusals.specs.FreeLaws.{past-five}
 use borrow.Author.Needs.{needs}
 use mathlib.Core.Path.{sym, _∙_}
-use Rattle.chip.proofs.refuse.refusal.Statement.{statement}
-use Rattle.chip.proofs.refuse.refusal.Tie as tie
+use Rattle.refusals.proofs.refuse.refusal.Statement.{statement}
+use Rattle.refusals.proofs.refuse.refusal.Tie as tie
 
 returns : tie.Need-returns
 unfolding refusalOf

@@ -1,7 +1,7 @@
-use Rattle.chip.specs.Refuse.{refusesSeven}
+use Rattle.refusals.specs.Refuse.{refusesSeven}
 use borrow.Author.Needs.{needs}
-use Rattle.chip.proofs.refuse.refuses_seven.Statement.{statement}
-use Rattle.chip.proofs.refuse.refuses_seven.Tie as tie
+use Rattle.refusals.proofs.refuse.refuses_seven.Statement.{statement}
+use Rattle.refusals.proofs.refuse.refuses_seven.Tie as tie
 
 returns : tie.Need-returns
 unfolding refusesSeven

@@ -1,9 +1,9 @@
 // What is turned away: 5 to 10.
-ghost use Rattle.chip.specs.Refuse.{Refuses, fromEight, fromSix, retransmitMost, refusesEight, refusesFive, refusesNine, refusesSeven, refusesSix, refusesTen, severalLow, asksUnselected};
+ghost use Rattle.refusals.specs.Refuse.{Refuses, fromEight, fromSix, retransmitMost, refusesEight, refusesFive, refusesNine, refusesSeven, refusesSix, refusesTen, severalLow, asksUnselected};
 ghost use Rattle.counts.specs.Part.{depthOf};
 ghost use mathlib.Core.Bool.{cond};
 ghost use mathlib.Core.Path.{_≡_};
-use super::state::State;
+use chip::state::State;
 use counts::part::Part;
 use offsets::registers::Method;
 use pins::record::Pins;
@@ -14,7 +14,7 @@ pub fn refusal(part: Part, p: Pins, s: State) -> u8
 {
     if refuses_five(p, s) {
         5
-    } else if p.mrs & p.prs & super::quiet::clock_rises(p, s) {
+    } else if p.mrs & p.prs & chip::quiet::clock_rises(p, s) {
         refuse_rise(part, p, s)
     } else {
         0
@@ -67,7 +67,7 @@ fn refuses_five(p: Pins, s: State) -> bool
 fn refuses_six(p: Pins, s: State) -> bool
     ensures { λ r. ⌜ r ≡ refusesSix p s ⌝ }
 {
-    super::quiet::clock_rises(p, s) & !p.ld & several_low(p.wen, p.ren, p.sen)
+    chip::quiet::clock_rises(p, s) & !p.ld & several_low(p.wen, p.ren, p.sen)
 }
 
 fn refuses_seven(p: Pins, s: State) -> bool

@@ -1,8 +1,8 @@
-use Rattle.chip.specs.Refuse.{refusesEight, refusesNine}
+use Rattle.refusals.specs.Refuse.{refusesEight, refusesNine}
 use borrow.Author.Needs.{needs}
 use mathlib.Core.Path.{sym, _∙_}
-use Rattle.chip.proofs.refuse.refuse_from_eight.Statement.{statement}
-use Rattle.chip.proofs.refuse.refuse_from_eight.Tie as tie
+use Rattle.refusals.proofs.refuse.refuse_from_eight.Statement.{statement}
+use Rattle.refusals.proofs.refuse.refuse_from_eight.Tie as tie
 
 returns : tie.Need-returns
 returns c = simp (c .pick3 .ensures, c .before .pick2 .ensures, c .before .before .refuses-nine .ensures, c .before .before .before .refuses-eight .ensures, c .before .before .before .before .before .before .pick .ensures, c .before .before .before .before .before .before .before .refuses-ten .ensures)

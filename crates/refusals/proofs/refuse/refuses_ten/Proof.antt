@@ -1,7 +1,7 @@
-use Rattle.chip.specs.Refuse.{refusesTen}
+use Rattle.refusals.specs.Refuse.{refusesTen}
 use borrow.Author.Needs.{needs}
-use Rattle.chip.proofs.refuse.refuses_ten.Statement.{statement}
-use Rattle.chip.proofs.refuse.refuses_ten.Tie as tie
+use Rattle.refusals.proofs.refuse.refuses_ten.Statement.{statement}
+use Rattle.refusals.proofs.refuse.refuses_ten.Tie as tie
 
 returns : tie.Need-returns
 unfolding refusesTen
