@@ -1,4 +1,3 @@
-// The model over a lent memory: one sample, and a run over a whole trace.
+// The model over a lent memory: one sample.
 pub mod memory;
-pub mod run;
 pub mod sample;

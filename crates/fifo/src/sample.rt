@@ -41,8 +41,8 @@ pub fn sample(part: u32, record: u32, state: State, memory: &mut [u32]) -> Sampl
     }
 }
 
-// One record once part, memory and state have passed their tests. The run shares it.
-pub(crate) fn step(part: Part, record: u32, state: State, memory: &mut [u32]) -> Sampled
+// One record once part, memory and state have passed their tests: what a single sample and a run share.
+pub fn step(part: Part, record: u32, state: State, memory: &mut [u32]) -> Sampled
     requires { ⌜ widths part state ≡ true ⌝ }
     ensures { λ r. ⌜ Steps part «record» state (now (memory .entry)) r (now (memory .exit)) ⌝ }
 {
@@ -84,7 +84,7 @@ fn take_or_turn_away(part: Part, record: u32, state: State, memory: &mut [u32]) 
     }
 }
 
-pub(crate) fn is_depth(part: Part, words: usize) -> bool
+pub fn is_depth(part: Part, words: usize) -> bool
     ensures { λ r. ⌜ r ≡ isDepth part words ⌝ }
 {
     words == wide(counts::part::depth(part))

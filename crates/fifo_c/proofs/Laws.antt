@@ -26,7 +26,7 @@ use Rattle.chip.specs.Quiet.{held}
 use Rattle.chip.specs.QuietLaws.{quiet-advanced}
 use Rattle.chip.specs.Laws.{store-placed}
 use Rattle.counts.specs.Round.{placeOf}
-use Rattle.fifo.specs.Run.{putAnswer}
+use Rattle.pins.specs.Answer.{putAnswer}
 use Rattle.fifo.specs.Sample.{recordRefusal}
 use Rattle.fifo.specs.Still.{still}
 use Rattle.fifo.specs.StillLaws.{still-free, still-quiet}

@@ -22,7 +22,7 @@ use Rattle.counts.specs.declared.part.Part.{Part}
 use Rattle.counts.specs.Laws.{place-below}
 use Rattle.counts.specs.Part.{byPart, depthOf, partOf, placeBits}
 use Rattle.counts.specs.Round.{placeOf}
-use Rattle.fifo.specs.Run.{answersAfter}
+use Rattle.runs.specs.Run.{answersAfter}
 use Rattle.fifo.specs.Sample as sample
 use Rattle.fifo.specs.Sample.{After, fetchedFor, isDepth, recordRefusal, sampled, stepped}
 use Rattle.pins.specs.Record.{pinsOf}

@@ -15,7 +15,7 @@ use Rattle.chip.specs.State.{passes}
 use Rattle.counts.specs.declared.part.Part.{Part}
 use Rattle.counts.specs.Part.{byPart, depthOf, partOf}
 use Rattle.counts.specs.Round.{placeOf}
-use Rattle.fifo.specs.Run.{putAnswer}
+use Rattle.pins.specs.Answer.{putAnswer}
 use Rattle.fifo.specs.Sample.{recordRefusal}
 use Rattle.pins.specs.Record.{pinsOf}
 use Rattle.pins.specs.Trace.{wordAt}

@@ -4,7 +4,7 @@ ghost use Rattle.chip.specs.Quiet.{held};
 ghost use Rattle.fifo_c.specs.Call.{Calls, Gives, GivesMemoryBytes, GivesStateBytes, PowersUp, Ready, answerBytes, numberOf, taken, worked};
 ghost use Rattle.fifo_c.specs.Spelling.{spelling, spells, stateBytes, stateIn};
 ghost use Rattle.pins.specs.Record.{pinsOf};
-ghost use Rattle.fifo.specs.Run.{putAnswer};
+ghost use Rattle.pins.specs.Answer.{putAnswer};
 ghost use lib.ListN.{length};
 ghost use mathlib.Core.Bool.{true};
 ghost use mathlib.Core.Path.{_≡_};

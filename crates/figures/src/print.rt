@@ -1,8 +1,8 @@
 // A figure's line: part, mode and name of the case, a blank, and the outcome.
 use super::bench::Bench;
 use super::record::Mode;
-use fifo::run::Ran;
 use fifo::sample::Outcome;
+use runs::run::Ran;
 
 pub(crate) fn print_case(bench: Bench, name: &[u8]) {
     let mode = bench.mode;

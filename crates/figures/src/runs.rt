@@ -31,14 +31,14 @@ fn print_refused(part: u32, memory: &mut [u32]) {
 
 fn print_strict(part: u32, trace: &[u8], name: &[u8], memory: &mut [u32]) {
     let mut answers = [0u8; 6];
-    let ran = fifo::run::run(part, trace, chip::reset::power_up(), memory, &mut answers);
+    let ran = runs::run::run(part, trace, chip::reset::power_up(), memory, &mut answers);
     print::print_run(part, b"-strict-", name, ran);
 }
 
 fn print_lenient(part: u32, trace: &[u8], name: &[u8], memory: &mut [u32]) {
     let mut answers = [0u8; 6];
     let mut marks = [0u8; 2];
-    let ran = fifo::run::run_lenient(
+    let ran = runs::run::run_lenient(
         part,
         trace,
         chip::reset::power_up(),

@@ -17,7 +17,7 @@ use Rattle.chip.specs.State.{widths}
 use Rattle.chip.specs.Widths.{tested-widths}
 use Rattle.counts.specs.declared.part.Part.{Part}
 use Rattle.fifo.specs.declared.sample.Outcome.the-variants.{Taken}
-use Rattle.fifo.specs.Run.{putAnswer}
+use Rattle.pins.specs.Answer.{putAnswer}
 use Rattle.fifo.specs.Sample.{After, numberOf, recordRefusal, stepped, taken, turnedAway}
 use Rattle.pins.specs.declared.record.Pins.{Pins}
 use Rattle.pins.specs.Record.{pinsOf}

@@ -30,7 +30,8 @@ use Rattle.fifo_c.specs.Spelling.{stateBytes, stateIn}
 use Rattle.fifo_c.specs.ReadBackLaws.{Spelled, power-up-bytes, power-up-read}
 use Rattle.fifo_c.specs.SpellingLaws.{Bytes, spelling-length}
 use Rattle.fifo.specs.declared.sample.Outcome.{Outcome}
-use Rattle.fifo.specs.Run.{answersAfter, putAnswer}
+use Rattle.runs.specs.Run.{answersAfter}
+use Rattle.pins.specs.Answer.{putAnswer}
 use Rattle.fifo.specs.Sample.{recordRefusal}
 use Rattle.pins.specs.Record.{pinsOf}
 use Rattle.pins.specs.Trace.{wholeRecords, wordAt}

@@ -17,9 +17,9 @@ use Rattle.chip.specs.State.{passes, wordsHeld}
 use Rattle.counts.specs.declared.part.Part.{Part}
 use Rattle.counts.specs.declared.part.Part.the-variants.{Idt72V255LA}
 use Rattle.counts.specs.Part.{depthOf}
-use Rattle.fifo.specs.declared.run.Ran.{Ran}
+use Rattle.runs.specs.declared.run.Ran.{Ran}
 use Rattle.fifo.specs.declared.sample.Outcome.the-variants.{Taken}
-use Rattle.fifo.specs.Run.{Ended, ranOf}
+use Rattle.runs.specs.Run.{Ended, ranOf}
 use Rattle.fifo.specs.Sample.{numberOf}
 use Rattle.fifo_c.specs.Bytes.{wordsIn}
 use Rattle.fifo_c.specs.Call.{memoryBytes}

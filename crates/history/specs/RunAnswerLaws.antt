@@ -15,7 +15,7 @@ use Rattle.counts.specs.declared.part.Part.{Part}
 use Rattle.counts.specs.PartLaws.{own-number}
 use Rattle.fifo.specs.declared.sample.Outcome.{Outcome}
 use Rattle.fifo.specs.declared.sample.Outcome.the-variants.{Taken, Refused}
-use Rattle.fifo.specs.Run.{Ended, Progress, answersAfter, atEnd, ended, folded, noted, roomy, runOf, started, stops, worked}
+use Rattle.runs.specs.Run.{Ended, Progress, answersAfter, atEnd, ended, folded, noted, roomy, runOf, started, stops, worked}
 use Rattle.fifo.specs.Sample.{After, isDepth, numberOf, stepped}
 use Rattle.pins.specs.Record.{pinsOf}
 use Rattle.pins.specs.Trace.{recordsFrom, wholeRecords}

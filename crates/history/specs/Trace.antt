@@ -12,7 +12,7 @@ use Rattle.counts.specs.Part.{numberOf}
 use Rattle.counts.specs.Round.{placeOf}
 use Rattle.fifo.specs.declared.sample.Outcome.{Outcome}
 use Rattle.fifo.specs.declared.sample.Outcome.the-variants.{Taken, Refused}
-use Rattle.fifo.specs.Run.{Ended, runOf, started}
+use Rattle.runs.specs.Run.{Ended, runOf, started}
 use Rattle.fifo.specs.Sample.{After, sampled}
 use Rattle.offsets.specs.declared.reading.Shows.the-variants.{Register}
 use Rattle.pins.specs.declared.record.Pins.{Pins}

@@ -1,1 +1,1 @@
-pub mod Began
+pub mod RunLaws

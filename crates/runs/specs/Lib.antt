@@ -1,2 +1,4 @@
-pub mod FromPowerUp
+pub mod Run
+pub mod FoldLaws
+pub mod Table
 pub mod Unique

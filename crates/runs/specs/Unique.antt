@@ -1,10 +1,17 @@
--- What counts as an answer proved: two outcomes that meet the promise are the same in index, memory and answer room.
+-- What counts as an answer proved: two outcomes that meet a run's promise are the same in result and in every room lent.
 use Prim.Native.Nat.{ℕ}
 use mathlib.Core.List.{List}
 use mathlib.Core.Path.{_≡_, sym, _∙_}
-use Rattle.runs.specs.FromPowerUp.{RunsFromPowerUp}
+use Rattle.chip.specs.declared.state.State.{State}
+use Rattle.runs.specs.declared.run.Ran.{Ran}
+use Rattle.runs.specs.Run.{Runs, RunsLenient}
 
-pub from-power-up-unique : (number : ℕ) (bytes memory answers : List ℕ) (a b : ℕ) (m n k l : List ℕ)
-    → RunsFromPowerUp number bytes memory answers a m k → RunsFromPowerUp number bytes memory answers b n l → (a ≡ b) × (m ≡ n) × (k ≡ l)
-from-power-up-unique number bytes memory answers a b m n k l f g =
-    (f .ended ∙ sym (g .ended), f .words ∙ sym (g .words), f .room ∙ sym (g .room))
+pub run-unique : (number : ℕ) (bytes : List ℕ) (s : State) (memory answers : List ℕ) (a b : Ran) (m n k l : List ℕ)
+    → Runs number bytes s memory answers a m k → Runs number bytes s memory answers b n l → (a ≡ b) × (m ≡ n) × (k ≡ l)
+run-unique number bytes s memory answers a b m n k l f g = (f .result ∙ sym (g .result), f .words ∙ sym (g .words), f .room ∙ sym (g .room))
+
+pub lenient-unique : (number : ℕ) (bytes : List ℕ) (s : State) (memory answers marks : List ℕ) (a b : Ran) (m n k l i j : List ℕ)
+    → RunsLenient number bytes s memory answers marks a m k i → RunsLenient number bytes s memory answers marks b n l j
+    → (a ≡ b) × (m ≡ n) × (k ≡ l) × (i ≡ j)
+lenient-unique number bytes s memory answers marks a b m n k l i j f g =
+    (f .result ∙ sym (g .result), f .words ∙ sym (g .words), f .room ∙ sym (g .room), f .marked ∙ sym (g .marked))

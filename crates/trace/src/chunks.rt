@@ -2,7 +2,7 @@
 ghost use Prim.Native.Nat.{_*_, _≤_};
 ghost use lib.ListN.{length};
 use chip::state::State;
-use fifo::run::Ran;
+use runs::run::Ran;
 
 const RECORDS: usize = 4096;
 
@@ -82,9 +82,9 @@ fn run(
     marks: &mut [u8],
 ) -> Ran {
     if lenient {
-        fifo::run::run_lenient(part, trace, state, memory, answers, marks)
+        runs::run::run_lenient(part, trace, state, memory, answers, marks)
     } else {
-        fifo::run::run(part, trace, state, memory, answers)
+        runs::run::run(part, trace, state, memory, answers)
     }
 }
 

@@ -1,5 +1,5 @@
 use mathlib.Core.Path.{refl}
-use Rattle.fifo.specs.Run.{putAnswer}
+use Rattle.pins.specs.Answer.{putAnswer}
 use borrow.Author.Needs.{needs}
 use Rattle.fifo_c.proofs.call.put_answer.Statement.{statement}
 use Rattle.fifo_c.proofs.call.put_answer.Tie as tie

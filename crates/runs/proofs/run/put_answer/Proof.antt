@@ -1,10 +1,10 @@
 use native.Mathlib.Omega.{arith}
 use lib.ListN.{length-set}
-use Rattle.fifo.specs.Run.{putAnswer}
+use Rattle.pins.specs.Answer.{putAnswer}
 use mathlib.Core.Path.{refl}
 use borrow.Author.Needs.{needs}
-use Rattle.fifo.proofs.run.put_answer.Statement.{statement}
-use Rattle.fifo.proofs.run.put_answer.Tie as tie
+use Rattle.runs.proofs.run.put_answer.Statement.{statement}
+use Rattle.runs.proofs.run.put_answer.Tie as tie
 
 slice-write-answers-2 : tie.Need-slice-write-answers-2
 slice-write-answers-2 c = simp length-set (omega arith)

@@ -5,10 +5,10 @@ use borrow.Author.Needs.{needs}
 use native.Mathlib.Omega.{arith}
 use Rattle.pins.specs.Trace.{wholeRecords}
 use Rattle.pins.specs.TraceLaws.{whole-below}
-use Rattle.fifo.specs.Run.{started}
-use Rattle.fifo.proofs.RunLaws.{Going, ended-now, going, no-whole, stopped-now, turned-now}
-use Rattle.fifo.proofs.run.go.Statement.{statement}
-use Rattle.fifo.proofs.run.go.Tie as tie
+use Rattle.runs.specs.Run.{started}
+use Rattle.runs.proofs.RunLaws.{Going, ended-now, going, no-whole, stopped-now, turned-now}
+use Rattle.runs.proofs.run.go.Statement.{statement}
+use Rattle.runs.proofs.run.go.Tie as tie
 
 abbrev Inv-loop : tie.InvT-loop
 Inv-loop lenient part trace memory₀ answers₀ marks₀ s₀ accepted₀ index₀ memory answers marks s accepted index =

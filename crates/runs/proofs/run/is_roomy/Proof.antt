@@ -1,6 +1,6 @@
-use Rattle.fifo.proofs.RunLaws.{room-by-thirds}
-use Rattle.fifo.proofs.run.is_roomy.Statement.{statement}
-use Rattle.fifo.proofs.run.is_roomy.Tie as tie
+use Rattle.runs.proofs.RunLaws.{room-by-thirds}
+use Rattle.runs.proofs.run.is_roomy.Statement.{statement}
+use Rattle.runs.proofs.run.is_roomy.Tie as tie
 
 returns : tie.Need-returns
 returns c = let a = c .args in room-by-thirds (a .lenient) (a .whole) (a .answers) (a .marks)

@@ -1,8 +1,8 @@
 use mathlib.Core.Path.{sym}
 use lib.Seq.{set-out}
 use borrow.Author.Needs.{needs}
-use Rattle.fifo.proofs.run.note_mark.Statement.{statement}
-use Rattle.fifo.proofs.run.note_mark.Tie as tie
+use Rattle.runs.proofs.run.note_mark.Statement.{statement}
+use Rattle.runs.proofs.run.note_mark.Tie as tie
 
 returns : tie.Need-returns
 returns c = simp (← c .before .before .number-of .ensures, c .before .if1 .taken)

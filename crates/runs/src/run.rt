@@ -1,17 +1,18 @@
 // A run over a whole trace, strict or lenient.
 ghost use Prim.Native.Nat.{_*_, _+_, _<_, _^_, _≤_};
 ghost use Rattle.chip.specs.State.{widths};
-ghost use Rattle.fifo.specs.Run.{Began, Ends, Runs, RunsLenient, acceptedAfter, answersAfter, marksAfter, putAnswer, roomy, started, stops, worked};
+ghost use Rattle.runs.specs.Run.{Began, Ends, Runs, RunsLenient, acceptedAfter, answersAfter, marksAfter, roomy, started, stops, worked};
+ghost use Rattle.pins.specs.Answer.{putAnswer};
 ghost use Rattle.fifo.specs.Sample.{numberOf};
 ghost use Rattle.pins.specs.Trace as trace;
 ghost use Rattle.pins.specs.Trace.{wholeRecords};
 ghost use lib.ListN.{length};
 ghost use mathlib.Core.Bool.{true};
 ghost use mathlib.Core.Path.{_≡_};
-use super::sample::Outcome;
 use chip::state::State;
 use counts::part::Lookup;
 use counts::part::Part;
+use fifo::sample::Outcome;
 use pins::trace::Record;
 
 // Where a run ended: the index of the record that it refused, or of the end of the trace, and the number, 0 for none.
@@ -57,7 +58,7 @@ fn begin(
     let Lookup::Known(known) = looked_up else {
         return turn_away(1, state);
     };
-    let sized = super::sample::is_depth(known, memory.len());
+    let sized = fifo::sample::is_depth(known, memory.len());
     if sized & is_roomy(lenient, trace.len() / 4, answers.len(), marks.len()) {
         if chip::state::passes_test(known, state) {
             go(lenient, known, trace, state, memory, answers, marks)
@@ -111,7 +112,7 @@ fn go(
                 refusal: ending(record),
             };
         };
-        let sampled = super::sample::step(part, word, s, memory);
+        let sampled = fifo::sample::step(part, word, s, memory);
         let outcome = sampled.outcome;
         // A refused record leaves the state as it was: the old one is not needed beside the new one.
         s = sampled.state;

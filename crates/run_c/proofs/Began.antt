@@ -5,9 +5,9 @@ use mathlib.Core.List.{List}
 use mathlib.Core.Path.{_≡_, ap, subst}
 use Rattle.chip.specs.declared.state.State.{State}
 use Rattle.chip.specs.Reset.{poweredUp}
-use Rattle.fifo.specs.declared.run.Ran.{Ran}
-use Rattle.fifo.specs.Run.{Runs}
-use Rattle.runs.specs.FromPowerUp.{RunsFromPowerUp}
+use Rattle.runs.specs.declared.run.Ran.{Ran}
+use Rattle.runs.specs.Run.{Runs}
+use Rattle.run_c.specs.FromPowerUp.{RunsFromPowerUp}
 
 pub began : {number : ℕ} {bytes memory answers memory′ answers′ : List ℕ} {s : State} {r : Ran} → s ≡ poweredUp →
     Runs number bytes s memory answers r memory′ answers′ → RunsFromPowerUp number bytes memory answers (r .index) memory′ answers′

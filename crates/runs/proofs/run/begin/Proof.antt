@@ -3,10 +3,10 @@ use mathlib.Core.Bool.{and-eq-true-iff}
 use denote.Ref.{now}
 use borrow.Author.Needs.{needs}
 use Rattle.chip.specs.Widths.{tested-widths}
-use Rattle.fifo.specs.Run.{started}
-use Rattle.fifo.proofs.RunLaws.{ends-by, room-told, run-room, run-state, run-unknown, run-works, turned-away}
-use Rattle.fifo.proofs.run.begin.Statement.{statement}
-use Rattle.fifo.proofs.run.begin.Tie as tie
+use Rattle.runs.specs.Run.{started}
+use Rattle.runs.proofs.RunLaws.{ends-by, room-told, run-room, run-state, run-unknown, run-works, turned-away}
+use Rattle.runs.proofs.run.begin.Statement.{statement}
+use Rattle.runs.proofs.run.begin.Tie as tie
 
 returns : tie.Need-returns
 returns c =

@@ -23,8 +23,9 @@ use Rattle.sides.specs.Write.{accepts, full, secondAfterWrite, takesAfter, writ
 use Rattle.views.specs.declared.retransmit.View.the-variants.{Seen}
 use Rattle.views.specs.declared.stages.ReadRise.the-variants as readRise
 use Rattle.views.specs.Flags.{hfLow, paeLow}
-use Rattle.fifo.specs.Run.{Ended, folded, putAnswer, runOf, started, worked}
+use Rattle.runs.specs.Run.{Ended, folded, runOf, started, worked}
+use Rattle.pins.specs.Answer.{putAnswer}
 use Rattle.fifo.specs.Sample.{recordRefusal, stepped, taken}
 
 unfoldable pub listing : List ℕ
 listing =

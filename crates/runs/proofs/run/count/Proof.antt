@@ -1,6 +1,6 @@
 use borrow.Author.Needs.{needs}
-use Rattle.fifo.proofs.run.count.Statement.{statement}
-use Rattle.fifo.proofs.run.count.Tie as tie
+use Rattle.runs.proofs.run.count.Statement.{statement}
+use Rattle.runs.proofs.run.count.Tie as tie
 
 returns : tie.Need-returns
 returns c = simp (c .enum-told .given .1)

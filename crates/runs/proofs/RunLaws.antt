@@ -21,13 +21,14 @@ use Rattle.pins.specs.declared.trace.Record.the-variants.{Whole, Leftover, End}
 use Rattle.pins.specs.Trace.{recordAt, recordsFrom, wholeRecords}
 use Rattle.pins.specs.Trace as trace
 use Rattle.pins.specs.TraceLaws.{isWhole, next-record, none-whole, whole-below}
-use Rattle.fifo.specs.declared.run.Ran.{Ran}
+use Rattle.runs.specs.declared.run.Ran.{Ran}
 use Rattle.fifo.specs.declared.sample.Outcome.{Outcome}
 use Rattle.fifo.specs.declared.sample.Outcome.the-variants.{Taken, Refused}
 use Rattle.fifo.specs.declared.sample.Sampled.{Sampled}
-use Rattle.fifo.specs.Run.{Ended, Ends, Progress, acceptedAfter, answersAfter, atEnd, ended, folded, marksAfter, noted, putAnswer, roomy, runOf, stops, worked}
+use Rattle.runs.specs.Run.{Ended, Ends, Progress, acceptedAfter, answersAfter, atEnd, ended, folded, marksAfter, noted, roomy, runOf, stops, worked}
+use Rattle.pins.specs.Answer.{putAnswer}
 use Rattle.fifo.specs.Sample.{After, Gives, isDepth, numberOf, stepped}
 use Rattle.fifo.specs.SampleLaws.{refused-still, step-length, step-widths}
 
 pub no-whole : (r : Record) → (tagOf the-type r ≡ 1) ⊎ (tagOf the-type r ≡ 2) → isWhole r ≡ false
 no-whole (Whole word) t = absurd (⊎-elim (λ z. omega arith) (λ z. omega arith) t)

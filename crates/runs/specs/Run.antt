@@ -1,5 +1,5 @@
 -- What is turned away, on a run: records in order, answers as they come, and where it ends.
-use Prim.Native.Nat.{ℕ, _+_, _*_, _/_, _%_, _^_}
+use Prim.Native.Nat.{ℕ, _+_, _*_}
 use mathlib.Core.Bool.{Bool, true, false, not, cond, _&&_, _||_}
 use mathlib.Core.List.{List, [], _∷_}
 use mathlib.Core.Path.{_≡_}
@@ -9,12 +9,13 @@ use Rattle.chip.specs.declared.state.State.{State}
 use Rattle.chip.specs.State.{passes}
 use Rattle.counts.specs.declared.part.Part.{Part}
 use Rattle.counts.specs.Part.{byPart, partOf}
+use Rattle.pins.specs.Answer.{putAnswer}
 use Rattle.pins.specs.Trace.{recordAt, recordsFrom, wholeRecords}
 use Rattle.pins.specs.Trace as trace
-use Rattle.fifo.specs.declared.run.Ran.{Ran}
+use Rattle.runs.specs.declared.run.Ran.{Ran}
 use Rattle.fifo.specs.declared.sample.Outcome.{Outcome}
 use Rattle.fifo.specs.declared.sample.Outcome.the-variants.{Taken, Refused}
 use Rattle.fifo.specs.Sample.{After, isDepth, numberOf, stepped}
 
 -- how far a run has come: what it will hand back, and the rooms lent to it
 pub record Progress : Type 0 where
@@ -23,11 +24,6 @@ pub record Progress : Type 0 where
   pub memory : List ℕ
   pub answers : List ℕ
   pub marks : List ℕ
-
--- three bytes for each record, the first of most weight
-unfoldable pub putAnswer : List ℕ → ℕ → ℕ → List ℕ
-putAnswer room index answer =
-    set (set (set room (index * 3) (answer / 2 ^ 16 % 2 ^ 8)) (index * 3 + 1) (answer / 2 ^ 8 % 2 ^ 8)) (index * 3 + 2) (answer % 2 ^ 8)
 
 -- a refused record writes no answer
 abbrev pub answersAfter : Outcome → ℕ → List ℕ → List ℕ

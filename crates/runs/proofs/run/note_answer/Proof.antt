@@ -1,6 +1,6 @@
 use borrow.Author.Needs.{needs}
-use Rattle.fifo.proofs.run.note_answer.Statement.{statement}
-use Rattle.fifo.proofs.run.note_answer.Tie as tie
+use Rattle.runs.proofs.run.note_answer.Statement.{statement}
+use Rattle.runs.proofs.run.note_answer.Tie as tie
 
 returns : tie.Need-returns
 returns c = simp (c .before .before .put-answer .ensures, c .before .before .before .before .before .outcome .given .1)
