@@ -14,6 +14,7 @@ use Rattle.counts.specs.declared.part.Part.{Part}
 use Rattle.counts.specs.Part.{byPart, depthOf, partOf}
 use Rattle.counts.specs.Round.{placeOf}
 use Rattle.pins.specs.declared.record.Pins.{Pins}
+use Rattle.pins.specs.Answer.{putAnswer}
 use Rattle.pins.specs.Record.{bit, pinsOf}
 use Rattle.fifo.specs.declared.sample.Outcome.{Outcome}
 use Rattle.fifo.specs.declared.sample.Outcome.the-variants.{Taken, Refused}
@@ -23,6 +24,11 @@ use Rattle.fifo.specs.declared.sample.Sampled.{Sampled}
 abbrev pub numberOf : Outcome → ℕ
 numberOf (Taken answer) = 0
 numberOf (Refused number) = number
+
+-- the answer of a record in a room for answers: a refused one writes none
+abbrev pub answersAfter : Outcome → ℕ → List ℕ → List ℕ
+answersAfter (Taken answer) index room = putAnswer room index answer
+answersAfter (Refused number) index room = room
 
 -- what comes back of a sample, and the memory's words after it
 pub record After : Type 0 where

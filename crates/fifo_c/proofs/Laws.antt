@@ -5,10 +5,8 @@ use mathlib.Core.List.{List}
 use lib.ListN.{length}
 use mathlib.Core.Path.{_≡_, refl, sym, ap, subst, _∙_}
 use Rattle.chip.specs.declared.state.State.{State}
-use Rattle.fifo_c.specs.Bytes.{putFour, putFours}
-use Rattle.fifo_c.specs.Digits.{readBefore, shownOffset, writeBefore}
-use Rattle.fifo_c.specs.Spelling.{countsOf, enumsOf, levelsOf, lowFirst, pair, putClocks, restOf, spelling, spells, stateBytes, stateIn}
-use Rattle.fifo_c.specs.SpellingLaws.{Bytes, clocks-put, put-over, written-back}
+use Rattle.spelling.specs.Spelling.{putClocks, spelling, spells, stateBytes, stateIn}
+use Rattle.spelling.specs.SpellingLaws.{Bytes, clocks-put, written-back}
 use Rattle.chip.specs.Reset.{poweredUp}
 use Rattle.chip.specs.State.{passes}
 use borrow.Author.Tests.{eq-eqb, ne-eqb}
@@ -38,22 +36,6 @@ use native.Mathlib.Omega.{arith}
 use Rattle.chip.specs.declared.advance.Store.{Store}
 use Rattle.chip.specs.declared.advance.Store.the-variants.{Put}
 use borrow.Author.Needs.{needs}
-
-module _ (s : State) (bytes : List ℕ) {first second third fourth : List ℕ} where
-  pub counts-put : {read write : ℕ} → read ≡ readBefore (s .write .latest) → write ≡ writeBefore (s .read .latest)
-      → first ≡ putFour bytes 16 (pair (s .write .count .0) (s .write .first .0)) → second ≡ putFour first 20 (pair (s .write .second .0) read)
-      → third ≡ putFour second 24 (pair (s .read .count .0) (s .read .first .0)) → fourth ≡ putFour third 28 (pair (s .read .second .0) write)
-      → fourth ≡ putFours 16 (countsOf s) bytes
-  counts-put a b e f g h = h ∙ rw (g, f, e, a, b) refl
-
-  pub rest-put : {shown : ℕ} → shown ≡ shownOffset (s .reading .shows) → first ≡ putFour bytes 32 (pair (s .offsets .n) (s .offsets .m))
-      → second ≡ putFour first 36 (lowFirst (s .offsets .serial)) → third ≡ putFour second 40 (pair shown 0)
-      → fourth ≡ putFour third 44 (lowFirst (s .read .output)) → fourth ≡ putFours 32 (restOf s) bytes
-  rest-put a e f g h = h ∙ rw (g, f, e, a) refl
-
-  pub written : length bytes ≡ stateBytes → first ≡ putFours 0 (levelsOf s) bytes → second ≡ putFours 12 (enumsOf s) first
-      → third ≡ putFours 16 (countsOf s) second → fourth ≡ putFours 32 (restOf s) third → fourth ≡ spelling s
-  written room e f g h = h ∙ rw (g, f, e) (put-over s bytes room)
 
 module _ (part : Part) (bytes state : List ℕ) {s : State} {spelled passed : Bool} (e : spelled ≡ spells state) (made : s ≡ stateIn state) (f : passed ≡ passes part s) where
   as-told : (spelled && passed) ≡ (spells state && passes part (stateIn state))

@@ -22,20 +22,19 @@ use Rattle.counts.specs.declared.part.Part.{Part}
 use Rattle.counts.specs.Laws.{place-below}
 use Rattle.counts.specs.Part.{byPart, depthOf, partOf, placeBits}
 use Rattle.counts.specs.Round.{placeOf}
-use Rattle.runs.specs.Run.{answersAfter}
 use Rattle.fifo.specs.Sample as sample
-use Rattle.fifo.specs.Sample.{After, fetchedFor, isDepth, recordRefusal, sampled, stepped}
+use Rattle.fifo.specs.Sample.{After, answersAfter, fetchedFor, isDepth, recordRefusal, sampled, stepped}
 use Rattle.pins.specs.Record.{pinsOf}
 use Rattle.pins.specs.Trace.{wholeRecords, wordAt}
 use Rattle.pins.specs.TraceLaws.{records-length}
 use Rattle.fifo_c.specs.declared.verdict.Verdict.{Verdict}
 use Rattle.fifo_c.specs.declared.verdict.Verdict.the-variants.{Refuse}
-use Rattle.fifo_c.specs.Bytes.{wordsIn}
-use Rattle.fifo_c.specs.BytesLaws.{word-in, words-put}
+use Rattle.numerals.specs.Bytes.{wordsIn}
+use Rattle.numerals.specs.BytesLaws.{word-in, words-put}
 use Rattle.fifo_c.specs.Call.{Called, answerBytes, byVerdict, called, judged, onRecord, onState, roomy, fetchedFrom, memoryBytes, storedIn, taken, turnedAway, wordSize, worked}
-use Rattle.fifo_c.specs.Spelling.{spelling, spells, stateBytes, stateIn}
-use Rattle.fifo_c.specs.ReadBackLaws.{Spelled, counted-in, read-back, spelling-bytes}
-use Rattle.fifo_c.specs.SpellingLaws.{Bytes, written-back}
+use Rattle.spelling.specs.Spelling.{spelling, spells, stateBytes, stateIn}
+use Rattle.spelling.specs.ReadBackLaws.{Spelled, counted-in, read-back, spelling-bytes}
+use Rattle.spelling.specs.SpellingLaws.{Bytes, written-back}
 
 -- the number, the state spelled, the memory's words and the answer room are those of a sample
 pub record AsSample (c : Called) (a : After) (answer : List ℕ) : Type 0 where

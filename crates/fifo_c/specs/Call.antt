@@ -21,8 +21,8 @@ use Rattle.pins.specs.Record.{pinsOf}
 use Rattle.pins.specs.Trace.{wordAt}
 use Rattle.fifo_c.specs.declared.verdict.Verdict.{Verdict}
 use Rattle.fifo_c.specs.declared.verdict.Verdict.the-variants.{Work, Refuse}
-use Rattle.fifo_c.specs.Bytes.{putWord}
-use Rattle.fifo_c.specs.Spelling.{spelling, spells, stateBytes, stateIn}
+use Rattle.numerals.specs.Bytes.{putWord}
+use Rattle.spelling.specs.Spelling.{spelling, spells, stateBytes, stateIn}
 
 abbrev pub wordSize : ℕ
 wordSize = 4

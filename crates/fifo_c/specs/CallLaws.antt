@@ -23,7 +23,7 @@ use Rattle.pins.specs.Trace.{wordAt}
 use Rattle.fifo_c.specs.declared.verdict.Verdict.{Verdict}
 use Rattle.fifo_c.specs.declared.verdict.Verdict.the-variants.{Work, Refuse}
 use Rattle.fifo_c.specs.Call.{Called, Lengths, Ready, Within, answerBytes, byVerdict, called, decided, judged, memoryBytes, onRecord, onState, roomy, taken, turnedAway, wordSize, worked}
-use Rattle.fifo_c.specs.Spelling.{spells, stateBytes, stateIn}
+use Rattle.spelling.specs.Spelling.{spells, stateBytes, stateIn}
 
 pub roomy-lengths : (part : Part) (state memory answer : ℕ) → roomy part state memory answer ≡ true → Lengths part state memory answer
 roomy-lengths part state memory answer e =

@@ -1,10 +1,3 @@
-pub mod Bytes
-pub mod BytesLaws
-pub mod Digits
-pub mod Spelling
-pub mod DigitsLaws
-pub mod SpellingLaws
-pub mod ReadBackLaws
 pub mod Call
 pub mod CallLaws
 pub mod AsSample

@@ -18,7 +18,7 @@ use Rattle.fifo.specs.Sample.{recordRefusal}
 use Rattle.pins.specs.Record.{bit, pinsOf}
 use Rattle.pins.specs.Trace.{wordAt}
 use Rattle.fifo_c.specs.Call.{byVerdict, called, decided, judged, memoryBytes, onRecord, onState, powered, taken, worked}
-use Rattle.fifo_c.specs.Spelling.{spells, stateIn}
+use Rattle.spelling.specs.Spelling.{spells, stateIn}
 
 -- Parts and paper authority: each part's number, and its memory in bytes, four for each word of its depth
 abbrev pub askedBy : Part → ℕ

@@ -2,16 +2,16 @@
 ghost use Rattle.chip.specs.Answer.{answerOf};
 ghost use Rattle.chip.specs.Quiet.{held};
 ghost use Rattle.fifo_c.specs.Call.{Calls, Gives, GivesMemoryBytes, GivesStateBytes, PowersUp, Ready, answerBytes, numberOf, taken, worked};
-ghost use Rattle.fifo_c.specs.Spelling.{spelling, spells, stateBytes, stateIn};
+ghost use Rattle.spelling.specs.Spelling.{spelling, spells, stateBytes, stateIn};
 ghost use Rattle.pins.specs.Record.{pinsOf};
 ghost use Rattle.pins.specs.Answer.{putAnswer};
 ghost use lib.ListN.{length};
 ghost use mathlib.Core.Bool.{true};
 ghost use mathlib.Core.Path.{_≡_};
-use super::state::STATE_BYTES;
 use super::verdict::Verdict;
 use counts::part::Lookup;
 use counts::part::Part;
+use spelling::state::STATE_BYTES;
 
 #[no_mangle]
 pub extern "C" fn fifo_state_bytes() -> u32
@@ -36,7 +36,7 @@ pub extern "C" fn fifo_power_up(state: &mut [u8]) -> u32
     ensures { λ r. ⌜ PowersUp (now (state .entry)) r (now (state .exit)) ⌝ }
 {
     if state.len() == STATE_BYTES {
-        super::state::write_state(chip::reset::power_up(), state);
+        spelling::state::write_state(chip::reset::power_up(), state);
         0
     } else {
         2
@@ -82,9 +82,9 @@ fn hold(part: Part, word: u32, state: &mut [u8], answer: &mut [u8])
     ensures answered { λ _. ⌜ now (answer .exit) ≡ putAnswer (now (answer .entry)) 0 (answerOf part (pinsOf word) (stateIn (now (state .entry)))) ⌝ }
 {
     let p = pins::record::decode(word);
-    let s = super::state::read_state(state);
+    let s = spelling::state::read_state(state);
     put_answer(answer, chip::answer::answer(part, p, s));
-    super::state::put_clocks(p.wclk, p.rclk, state);
+    spelling::state::put_clocks(p.wclk, p.rclk, state);
 }
 
 fn take_or_turn_away(
@@ -108,14 +108,14 @@ fn take(part: Part, word: u32, state: &mut [u8], memory: &mut [u8], answer: &mut
     requires { ⌜ Ready part (now state) (length (now memory)) (length (now answer)) ⌝ }
     ensures { λ _. ⌜ Gives (taken part word (stateIn (now (state .entry))) (now (memory .entry)) (now (answer .entry))) 0 (now (state .exit)) (now (memory .exit)) (now (answer .exit)) ⌝ }
 {
-    let s = super::state::read_state(state);
+    let s = spelling::state::read_state(state);
     let place = counts::round::read_place(part, s.read.count);
     let fetched = super::memory::fetch(memory, place);
     let advanced = chip::advance::advance(part, pins::record::decode(word), fetched, s);
     let store = advanced.store;
     super::memory::put_away(store, memory);
     let next = advanced.state;
-    super::state::write_state(next, state);
+    spelling::state::write_state(next, state);
     put_answer(answer, advanced.answer);
 }
 

@@ -17,7 +17,7 @@ pub(crate) fn fetch(memory: &[u8], place: u16) -> u32
     requires { ⌜ place * wordSize + 3 < length (now memory) ⌝ }
     ensures { λ r. ⌜ r ≡ wordAt (now (memory .entry)) (place * wordSize) ⌝ }
 {
-    super::bytes::word_at(memory, byte_place(place))
+    numerals::bytes::word_at(memory, byte_place(place))
 }
 
 pub(crate) fn put_away(store: Store, memory: &mut [u8])
@@ -25,7 +25,7 @@ pub(crate) fn put_away(store: Store, memory: &mut [u8])
     ensures { λ _. ⌜ now (memory .exit) ≡ storedIn store (now (memory .entry)) ⌝ }
 {
     if let Store::Put(place, word) = store {
-        super::bytes::put_word(memory, byte_place(place), word);
+        numerals::bytes::put_word(memory, byte_place(place), word);
     }
 }
 

@@ -2,12 +2,12 @@
 ghost use Rattle.fifo.specs.Sample.{recordRefusal};
 ghost use Rattle.fifo.specs.Still.{still};
 ghost use Rattle.fifo_c.specs.Call.{judged, onRecord, onState, roomy};
-ghost use Rattle.fifo_c.specs.Spelling.{stateBytes, stateIn};
+ghost use Rattle.spelling.specs.Spelling.{stateBytes, stateIn};
 ghost use lib.ListN.{length};
 ghost use mathlib.Core.Path.{_≡_};
-use super::state::STATE_BYTES;
 use counts::part::Lookup;
 use counts::part::Part;
+use spelling::state::STATE_BYTES;
 
 // A record of four bytes for a part and a state that have passed their tests, or a refusal's number.
 pub enum Verdict {
@@ -42,8 +42,8 @@ fn judge_state(part: Part, record: &[u8], state: &[u8]) -> Verdict
     requires { ⌜ length (now state) ≡ stateBytes ⌝ }
     ensures { λ r. ⌜ r ≡ onState part (now («record» .entry)) (now (state .entry)) ⌝ }
 {
-    let spelled = super::state::spells_state(state);
-    let passed = chip::state::passes_test(part, super::state::read_state(state));
+    let spelled = spelling::state::spells_state(state);
+    let passed = chip::state::passes_test(part, spelling::state::read_state(state));
     if spelled & passed {
         judge_record(part, record)
     } else {
@@ -55,7 +55,7 @@ fn judge_record(part: Part, record: &[u8]) -> Verdict
     ensures { λ r. ⌜ r ≡ onRecord part (now («record» .entry)) ⌝ }
 {
     if record.len() == 4 {
-        Verdict::Work(part, super::bytes::word_at(record, 0))
+        Verdict::Work(part, numerals::bytes::word_at(record, 0))
     } else {
         Verdict::Refuse(4)
     }
@@ -66,7 +66,7 @@ pub(crate) fn is_still(word: u32, state: &[u8]) -> bool
     requires { ⌜ length (now state) ≡ stateBytes ⌝ }
     ensures { λ r. ⌜ r ≡ still word (stateIn (now (state .entry))) ⌝ }
 {
-    fifo::sample::is_still(word, super::state::read_state(state))
+    fifo::sample::is_still(word, spelling::state::read_state(state))
 }
 
 // 4 on bit 18, and 5 to 10.
@@ -74,5 +74,9 @@ pub(crate) fn refuse(part: Part, word: u32, state: &[u8]) -> u32
     requires { ⌜ length (now state) ≡ stateBytes ⌝ }
     ensures { λ r. ⌜ r ≡ recordRefusal part word (stateIn (now (state .entry))) ⌝ }
 {
-    super::wide::wide_byte(fifo::sample::refuse_record(part, word, super::state::read_state(state)))
+    super::wide::wide_byte(fifo::sample::refuse_record(
+        part,
+        word,
+        spelling::state::read_state(state),
+    ))
 }

@@ -8,12 +8,6 @@ pub(crate) fn wide_byte(number: u8) -> u32
     number as u32
 }
 
-pub(crate) fn wide_half(number: u8) -> u16
-    ensures { λ r. ⌜ (r ≡ number) × (r < 256) ⌝ }
-{
-    number as u16
-}
-
 pub(crate) fn wide(number: u16) -> u32
     ensures { λ r. ⌜ (r ≡ number) × (r < 65536) ⌝ }
 {

@@ -22,17 +22,16 @@ use Rattle.counts.specs.PartLaws.{own-number}
 use Rattle.fifo_c.specs.declared.verdict.Verdict.{Verdict}
 use Rattle.fifo_c.specs.declared.verdict.Verdict.the-variants.{Work, Refuse}
 use Rattle.fifo_c.specs.AsSample.{AsSample, call-is-sample}
-use Rattle.fifo_c.specs.Bytes.{wordsIn}
-use Rattle.fifo_c.specs.BytesLaws.{put-length}
+use Rattle.numerals.specs.Bytes.{wordsIn}
+use Rattle.numerals.specs.BytesLaws.{put-length}
 use Rattle.fifo_c.specs.Call.{answerBytes, byVerdict, called, decided, fetchedFrom, judged, memoryBytes, onRecord, onState, powered, roomy, storedIn, taken, wordSize, worked}
 use Rattle.fifo_c.specs.CallLaws.{cleared}
-use Rattle.fifo_c.specs.Spelling.{stateBytes, stateIn}
-use Rattle.fifo_c.specs.ReadBackLaws.{Spelled, power-up-bytes, power-up-read}
-use Rattle.fifo_c.specs.SpellingLaws.{Bytes, spelling-length}
+use Rattle.spelling.specs.Spelling.{stateBytes, stateIn}
+use Rattle.spelling.specs.ReadBackLaws.{Spelled, power-up-bytes, power-up-read}
+use Rattle.spelling.specs.SpellingLaws.{Bytes, spelling-length}
 use Rattle.fifo.specs.declared.sample.Outcome.{Outcome}
-use Rattle.runs.specs.Run.{answersAfter}
 use Rattle.pins.specs.Answer.{putAnswer}
-use Rattle.fifo.specs.Sample.{recordRefusal}
+use Rattle.fifo.specs.Sample.{answersAfter, recordRefusal}
 use Rattle.pins.specs.Record.{pinsOf}
 use Rattle.pins.specs.Trace.{wholeRecords, wordAt}
 use Rattle.pins.specs.TraceLaws.{records-length}

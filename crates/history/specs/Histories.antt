@@ -21,10 +21,10 @@ use Rattle.runs.specs.declared.run.Ran.{Ran}
 use Rattle.fifo.specs.declared.sample.Outcome.the-variants.{Taken}
 use Rattle.runs.specs.Run.{Ended, ranOf}
 use Rattle.fifo.specs.Sample.{numberOf}
-use Rattle.fifo_c.specs.Bytes.{wordsIn}
+use Rattle.numerals.specs.Bytes.{wordsIn}
 use Rattle.fifo_c.specs.Call.{memoryBytes}
-use Rattle.fifo_c.specs.Spelling.{stateBytes}
-use Rattle.fifo_c.specs.ReadBackLaws.{Spelled}
+use Rattle.spelling.specs.Spelling.{stateBytes}
+use Rattle.spelling.specs.ReadBackLaws.{Spelled}
 use Rattle.pins.specs.Record.{bit, pinsOf}
 use Rattle.pins.specs.Trace.{wordAt}
 use Rattle.history.specs.AnswerLaws.{answers-taken}

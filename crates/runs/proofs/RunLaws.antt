@@ -25,9 +25,9 @@ use Rattle.runs.specs.declared.run.Ran.{Ran}
 use Rattle.fifo.specs.declared.sample.Outcome.{Outcome}
 use Rattle.fifo.specs.declared.sample.Outcome.the-variants.{Taken, Refused}
 use Rattle.fifo.specs.declared.sample.Sampled.{Sampled}
-use Rattle.runs.specs.Run.{Ended, Ends, Progress, acceptedAfter, answersAfter, atEnd, ended, folded, marksAfter, noted, roomy, runOf, stops, worked}
+use Rattle.runs.specs.Run.{Ended, Ends, Progress, acceptedAfter, atEnd, ended, folded, marksAfter, noted, roomy, runOf, stops, worked}
 use Rattle.pins.specs.Answer.{putAnswer}
-use Rattle.fifo.specs.Sample.{After, Gives, isDepth, numberOf, stepped}
+use Rattle.fifo.specs.Sample.{After, Gives, answersAfter, isDepth, numberOf, stepped}
 use Rattle.fifo.specs.SampleLaws.{refused-still, step-length, step-widths}
 
 pub no-whole : (r : Record) → (tagOf the-type r ≡ 1) ⊎ (tagOf the-type r ≡ 2) → isWhole r ≡ false

@@ -9,13 +9,12 @@ use Rattle.chip.specs.declared.state.State.{State}
 use Rattle.chip.specs.State.{passes}
 use Rattle.counts.specs.declared.part.Part.{Part}
 use Rattle.counts.specs.Part.{byPart, partOf}
-use Rattle.pins.specs.Answer.{putAnswer}
 use Rattle.pins.specs.Trace.{recordAt, recordsFrom, wholeRecords}
 use Rattle.pins.specs.Trace as trace
 use Rattle.runs.specs.declared.run.Ran.{Ran}
 use Rattle.fifo.specs.declared.sample.Outcome.{Outcome}
 use Rattle.fifo.specs.declared.sample.Outcome.the-variants.{Taken, Refused}
-use Rattle.fifo.specs.Sample.{After, isDepth, numberOf, stepped}
+use Rattle.fifo.specs.Sample.{After, answersAfter, isDepth, numberOf, stepped}
 
 -- how far a run has come: what it will hand back, and the rooms lent to it
 pub record Progress : Type 0 where
@@ -24,11 +23,6 @@ pub record Progress : Type 0 where
   pub memory : List ℕ
   pub answers : List ℕ
   pub marks : List ℕ
-
--- a refused record writes no answer
-abbrev pub answersAfter : Outcome → ℕ → List ℕ → List ℕ
-answersAfter (Taken answer) index room = putAnswer room index answer
-answersAfter (Refused number) index room = room
 
 abbrev pub acceptedAfter : Outcome → ℕ → ℕ
 acceptedAfter (Taken answer) accepted = accepted + 1

@@ -1,9 +1,9 @@
 // A run over a whole trace, strict or lenient.
 ghost use Prim.Native.Nat.{_*_, _+_, _<_, _^_, _≤_};
 ghost use Rattle.chip.specs.State.{widths};
-ghost use Rattle.runs.specs.Run.{Began, Ends, Runs, RunsLenient, acceptedAfter, answersAfter, marksAfter, roomy, started, stops, worked};
+ghost use Rattle.runs.specs.Run.{Began, Ends, Runs, RunsLenient, acceptedAfter, marksAfter, roomy, started, stops, worked};
 ghost use Rattle.pins.specs.Answer.{putAnswer};
-ghost use Rattle.fifo.specs.Sample.{numberOf};
+ghost use Rattle.fifo.specs.Sample.{answersAfter, numberOf};
 ghost use Rattle.pins.specs.Trace as trace;
 ghost use Rattle.pins.specs.Trace.{wholeRecords};
 ghost use lib.ListN.{length};

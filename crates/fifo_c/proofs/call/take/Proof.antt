@@ -2,7 +2,7 @@ use denote.Ref.{now}
 use lib.ListN.{length}
 use Rattle.chip.specs.Widths.{tested-widths}
 use Rattle.fifo_c.specs.CallLaws.{fetch-within}
-use Rattle.fifo_c.specs.Spelling.{stateIn}
+use Rattle.spelling.specs.Spelling.{stateIn}
 use Rattle.fifo_c.proofs.Laws.{store-in-memory, takes}
 use borrow.Author.Needs.{needs}
 use Rattle.fifo_c.proofs.call.take.Statement.{statement}

@@ -1,0 +1,2 @@
+// A state in lent bytes.
+pub mod state;
