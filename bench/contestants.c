@@ -1,7 +1,7 @@
 #include "contestants.h"
 
 #include "fifo.h"
-#include "runs.h"
+#include "run_c.h"
 
 static size_t work_by_c_call(const struct job *job, size_t records)
 {

@@ -1,1 +1,2 @@
 pub mod Began
+pub mod HandedLaws

@@ -1,2 +1,3 @@
 pub mod FromPowerUp
+pub mod Handed
 pub mod Unique

@@ -1,6 +1,6 @@
-// The static library of the crate `runs`. The buffers must not overlap.
-#ifndef RUNS_H
-#define RUNS_H
+// The static library of the crate `run_c`. The buffers must not overlap.
+#ifndef RUN_C_H
+#define RUN_C_H
 
 #include <stddef.h>
 #include <stdint.h>

@@ -1,7 +1,7 @@
 use borrow.Author.Needs.{needs}
 use Rattle.run_c.proofs.Began.{began}
-use Rattle.run_c.proofs.fifo_run.Statement.{statement}
-use Rattle.run_c.proofs.fifo_run.Tie as tie
+use Rattle.run_c.proofs.timed.fifo_run.Statement.{statement}
+use Rattle.run_c.proofs.timed.fifo_run.Tie as tie
 
 returns : tie.Need-returns
 returns c =
