@@ -9,7 +9,7 @@ use spelling::state::STATE_BYTES;
 // `ended` gets the index at which the run ended and the records that it accepted. 3 also where the state's bytes spell none
 // or a room for a state or an end has another length; nothing is run then.
 #[no_mangle]
-pub extern "C" fn fifo_run_strict(
+pub extern "C" fn fifo_run_from(
     part: u32,
     trace: &[u8],
     state: &mut [u8],
@@ -30,7 +30,7 @@ pub extern "C" fn fifo_run_strict(
 }
 
 #[no_mangle]
-pub extern "C" fn fifo_run_lenient(
+pub extern "C" fn fifo_run_lenient_from(
     part: u32,
     trace: &[u8],
     state: &mut [u8],

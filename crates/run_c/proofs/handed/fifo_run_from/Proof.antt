@@ -1,8 +1,8 @@
 use denote.Ref.{now}
 use Rattle.run_c.proofs.HandedLaws.{strict-none, strict-runs, sound-lengths}
 use borrow.Author.Needs.{needs}
-use Rattle.run_c.proofs.handed.fifo_run_strict.Statement.{statement}
-use Rattle.run_c.proofs.handed.fifo_run_strict.Tie as tie
+use Rattle.run_c.proofs.handed.fifo_run_from.Statement.{statement}
+use Rattle.run_c.proofs.handed.fifo_run_from.Tie as tie
 
 read-state-requires : tie.Need-read-state-requires
 read-state-requires c κs =
@@ -31,8 +31,8 @@ returns-2 c =
     let a = c .before .before .before .before .before .before .before .before .args in
     strict-none (a .part) (now (a .trace)) (now (a .state)) (now (a .memory)) (now (a .answers)) (now (a .ended)) (c .before .is-sound .ensures) (c .if1 .left)
 
-pub fifo-run-strict-spec : {M : Type 1} → statement M
-fifo-run-strict-spec =
+pub fifo-run-from-spec : {M : Type 1} → statement M
+fifo-run-from-spec =
     tie.close
     (tie.spec
     (λ c κs. search needs)
