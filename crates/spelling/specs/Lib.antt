@@ -1,3 +1,4 @@
 pub mod Spelling
+pub mod EnumLaws
 pub mod SpellingLaws
 pub mod ReadBackLaws

@@ -1,6 +1,6 @@
 -- The state's bytes: what is written over them, and that what was read is written back as the same bytes.
 use Prim.Native.Nat.{ℕ, zero, suc, _+_, _^_, _<_}
-use mathlib.Core.Bool.{Bool, true, _&&_, _||_, and-eq-true-iff}
+use mathlib.Core.Bool.{true, _&&_, _||_}
 use mathlib.Core.List.{List, [], _∷_}
 use mathlib.Core.Path.{_≡_, refl, sym, ap, _∙_}
 use lib.Dec.{eqb, ltb}
@@ -13,6 +13,7 @@ use Rattle.pins.specs.declared.record.Pins.{Pins}
 use Rattle.numerals.specs.Bytes.{byteOf, halfAt, lowByte, lowFirstAt, putFour, putFours}
 use Rattle.numerals.specs.Digits.{digitOf, modeDigit, modeOf, readBefore, readRiseOf, setupDigit, setupOf, shownOffset, showsOf, viewDigit, viewOf, writeBefore, writeRiseOf}
 use Rattle.numerals.specs.DigitsLaws.{digit-back, method-back, mode-back, next-back, offset-back, read-before-back, read-rose-back, setup-back, shown-back, view-back, write-before-back, write-rose-back}
+use Rattle.spelling.specs.EnumLaws.{both, enums-small}
 use Rattle.spelling.specs.Spelling.{blankElsewhere, countsOf, enumsOf, fourLevels, levelAt, levelsOf, offsetsIn, putClocks, readIn, readingIn, restOf, spelledDigits, spelling, spells, stateBytes, stateIn, writeIn}
 
 -- the first elements of a list, one by one
@@ -76,9 +77,6 @@ record Levels (bytes : List ℕ) (i : ℕ) : Type 0 where
   third : digitOf (levelAt bytes (i + 2)) ≡ getD bytes (i + 2) 0
   fourth : digitOf (levelAt bytes (i + 3)) ≡ getD bytes (i + 3) 0
 
-both : (a b : Bool) → (a && b) ≡ true → (a ≡ true) × (b ≡ true)
-both a b = and-eq-true-iff a b .0
-
 levels : (bytes : List ℕ) (i : ℕ) → fourLevels bytes i ≡ true → Levels bytes i
 unfolding fourLevels levelAt
 levels bytes i e =
@@ -115,9 +113,8 @@ own : (bytes : List ℕ) → spells bytes ≡ true → Own bytes
 unfolding spells spelledDigits blankElsewhere
 own bytes e =
     let all = both (spelledDigits bytes) (blankElsewhere bytes) e in
-    let mode = both _ _ (all .0) in
-    let setup = both _ _ (mode .0) in
-    let view = both _ _ (setup .0) in
+    let digits = enums-small bytes e in
+    let view = both _ _ (both _ _ (both _ _ (all .0) .0) .0) in
     let offsets = both _ _ (view .0) in
     let flags = both (fourLevels bytes 0) (fourLevels bytes 4) (offsets .0) in
     let blank = both _ _ (all .1) in
@@ -127,9 +124,9 @@ own bytes e =
       start = levels bytes 0 (flags .0);
       flags = levels bytes 4 (flags .1);
       offsets = levels bytes 8 (offsets .1);
-      view = view-back _ (ltb-true _ 3 (view .1));
-      setup = setup-back _ (ltb-true _ 3 (setup .1));
-      mode = mode-back _ (ltb-true _ 3 (mode .1));
+      view = view-back _ (digits .0);
+      setup = setup-back _ (digits .1);
+      mode = mode-back _ (digits .2);
       read = read-before-back (halfAt bytes 22) (levelAt bytes 4) (sides .0);
       write = write-before-back (halfAt bytes 30) (levelAt bytes 5) (sides .1);
       shown = shown-back (halfAt bytes 40) (levelAt bytes 11) (shown .1);

@@ -1,0 +1,21 @@
+-- The state's bytes: bytes that spell a state have a digit below 3 for each of the write side's view, the setup and the mode.
+use Prim.Native.Nat.{ℕ, _<_}
+use mathlib.Core.Bool.{Bool, true, _&&_, and-eq-true-iff}
+use mathlib.Core.List.{List}
+use mathlib.Core.Path.{_≡_}
+use lib.Dec.{ltb}
+use lib.ListN.{getD}
+use borrow.Author.Tests.{ltb-true}
+use Rattle.spelling.specs.Spelling.{blankElsewhere, fourLevels, spelledDigits, spells}
+
+pub both : (a b : Bool) → (a && b) ≡ true → (a ≡ true) × (b ≡ true)
+both a b = and-eq-true-iff a b .0
+
+pub enums-small : (bytes : List ℕ) → spells bytes ≡ true → (getD bytes 12 0 < 3) × (getD bytes 13 0 < 3) × (getD bytes 14 0 < 3)
+unfolding spells spelledDigits
+enums-small bytes e =
+    let mode = both _ (ltb (getD bytes 14 0) 3) (both (spelledDigits bytes) (blankElsewhere bytes) e .0) in
+    let setup = both _ (ltb (getD bytes 13 0) 3) (mode .0) in
+    let levels = fourLevels bytes 0 && fourLevels bytes 4 && fourLevels bytes 8 in
+    let view = both levels (ltb (getD bytes 12 0) 3) (setup .0) in
+    (ltb-true _ 3 (view .1), ltb-true _ 3 (setup .1), ltb-true _ 3 (mode .1))
