@@ -9,6 +9,7 @@ pub mod Widths
 pub mod Counted
 pub mod Laws
 pub mod ResetLaws
+pub mod HalfLaws
 pub mod ReachLaws
 pub mod SinceReset
 pub mod RefusalLaws

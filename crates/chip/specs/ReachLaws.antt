@@ -1,8 +1,8 @@
 -- What is turned away, 3: a state that samples lead to from power-up passes its test, for it holds true counts.
-use Prim.Native.Nat.{ℕ, _+_, _-_, _/_, _%_, _≤_}
-use mathlib.Core.Bool.{Bool, true, false, not, cond, _&&_}
-use mathlib.Core.Path.{_≡_, refl, ap}
-use lib.Dec.{leb, ltb}
+use Prim.Native.Nat.{ℕ, _+_, _-_, _%_, _≤_}
+use mathlib.Core.Bool.{Bool, true, false, cond, _&&_}
+use mathlib.Core.Path.{_≡_, refl}
+use lib.Dec.{leb}
 use borrow.Author.Tests.{le-leb}
 use native.Mathlib.Omega.{arith}
 use Rattle.counts.specs.declared.part.Part.{Part}
@@ -21,7 +21,7 @@ use Rattle.views.specs.OrderLaws.{ordered-reset}
 use Rattle.views.specs.TrueCounts.{TrueCounts, noCounts}
 use Rattle.chip.specs.declared.state.State.{State}
 use Rattle.chip.specs.Advance.{advanced, running, stateAfter}
-use Rattle.chip.specs.Answer.{linesOf}
+use Rattle.chip.specs.HalfLaws.{held-exact}
 use Rattle.chip.specs.Refuse.{refusalOf}
 use Rattle.chip.specs.RefusalLaws.{allowed}
 use Rattle.chip.specs.Reset.{cleared, masterReset, partialReset, poweredUp}
@@ -93,11 +93,7 @@ module _ (part : Part) where
     exact = left-behind (depthOf part) (part-sized part) (s .write) (s .read) t (h .tracks)
 
     pub words-held : wordsHeld s ≡ t .written - t .read
-    words-held = exact (s .read .count .0) (t .read) (h .tracks .read) (omega arith) (omega arith)
-
-    pub half-exact : (oe : Bool) → linesOf part oe s .hf ≡ not (ltb (depthOf part / 2) (t .written - t .read))
-    unfolding linesOf
-    half-exact oe = ap (λ (words : ℕ). not (ltb (depthOf part / 2) words)) words-held
+    words-held = held-exact part s t (h .tracks)
 
     near : (count earlier : ℕ) → count ≡ earlier % width → earlier ≤ t .written → t .written ≤ earlier + depthOf part
         → leb (less width (s .write .count .0) count) (depthOf part) ≡ true

@@ -7,7 +7,7 @@ use native.Mathlib.Omega.{arith}
 use Rattle.chip.specs.declared.state.State.{State}
 use Rattle.chip.specs.Advance.{advanced, running, stateAfter}
 use Rattle.chip.specs.Answer.{efLevel, linesOf}
-use Rattle.chip.specs.ReachLaws.{half-exact}
+use Rattle.chip.specs.HalfLaws.{half-exact}
 use Rattle.chip.specs.ResetLaws.{isFwft}
 use Rattle.counts.specs.declared.part.Part.{Part}
 use Rattle.counts.specs.Part.{depthOf}
@@ -55,7 +55,7 @@ module _ (part : Part) (m : Moment) (t : TrueCounts) (g : Told part m t) (c : Cr
       (full-told part m t (g .agrees) ∙ full-exact (depthOf part) (part-sized part) (m .state .write) (m .state .read) t (g .reached .tracks))
 
   pub half-judged : linesOf part false (m .state) .hf ≡ not (ltb (depthOf part / 2) (accepted m - delivered m))
-  half-judged = rw (g .agrees .written, g .agrees .read) (half-exact part (m .state) t (g .reached) false)
+  half-judged = rw (g .agrees .written, g .agrees .read) (half-exact part (m .state) t (g .reached .tracks) false)
 
   sees-judged : read.seesWord (m .state .read) ≡ seesWord m c
   sees-judged =
