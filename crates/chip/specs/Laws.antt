@@ -42,10 +42,10 @@ unfolding answerOf
 answer-whole part p s = laid (linesOf part (p .oe) s) .whole
 
 -- the flags are given whether OE is HIGH or LOW
-pub flags-given : (part : Part) (p : Pins) (oe : Bool) (s : State)
-    → (bit 23 (answerOf part p s) ≡ linesOf part oe s .ff) × (bit 22 (answerOf part p s) ≡ linesOf part oe s .ef)
+pub flags-given : (part : Part) (p : Pins) (oe : Bool) (s : State) → let a = answerOf part p s in let l = linesOf part oe s in
+    (bit 23 a ≡ l .ff) × (bit 22 a ≡ l .ef) × (bit 21 a ≡ l .hf) × (bit 20 a ≡ l .pae) × (bit 19 a ≡ l .paf)
 unfolding answerOf linesOf
-flags-given part p oe s = let l = laid (linesOf part (p .oe) s) in (l .ff, l .ef)
+flags-given part p oe s = let l = laid (linesOf part (p .oe) s) in (l .ff, l .ef, l .hf, l .pae, l .paf)
 
 -- OE HIGH: no word is given
 pub nothing-given : (part : Part) (p : Pins) (s : State) → p .oe ≡ true → word (answerOf part p s) ≡ 0

@@ -8,6 +8,7 @@ pub mod Widths
 pub mod Counted
 pub mod Laws
 pub mod ResetLaws
+pub mod HalfLaws
 pub mod SinceReset
 pub mod Unique
 pub mod ThreeLaws

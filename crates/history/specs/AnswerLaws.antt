@@ -30,7 +30,14 @@ answers-by : (part : Part) (p : Pins) (s : State) → widths part s ≡ true →
 unfolding shownBy
 answers-by part p s e =
     let flags = flags-given part p false s in
-    record { ff = flags .0; ef = flags .1; register = λ low shows. shown-given part p s e low ∙ rw shows refl }
+    record {
+      ff = flags .0;
+      ef = flags .1;
+      hf = flags .2;
+      pae = flags .3;
+      paf = flags .4;
+      register = λ low shows. shown-given part p s e low ∙ rw shows refl;
+    }
 
 module _ (part : Part) (m : Moment) (t : TrueCounts) (g : Told part m t) (x : ℕ) where
   answer-by : (is : Bool) → eqb (recordRefusal part x (m .state)) 0 ≡ is

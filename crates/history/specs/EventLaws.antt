@@ -16,7 +16,7 @@ use Rattle.sides.specs.Read as read
 use Rattle.sides.specs.Read.{deliversBy, modeAfter, readAfter, readyBy, seesWord}
 use Rattle.sides.specs.Write as write
 use Rattle.views.specs.TrueCounts.{TrueCounts}
-use Rattle.history.specs.Onlooker.{Notes, accepts, delivers, full, outside, rclkRises, reads, ready, retransmits}
+use Rattle.history.specs.Onlooker.{Notes, accepts, delivers, full, outside, rclkRises, reads, ready, retransmits, wclkRises}
 use Rattle.history.specs.Told.{Agrees}
 use Rattle.history.specs.Trace.{Moment, shownBy}
 
@@ -53,6 +53,11 @@ pub ready-told : (part : Part) (m : Moment) (t : TrueCounts) → Agrees part m t
 unfolding shownBy linesOf
 ready-told part m t g = rw (g .fwft) (ready-by (m .state .read .mode) (read.ready (m .state .read)))
 
+pub full-told : (part : Part) (m : Moment) (t : TrueCounts) → Agrees part m t
+    → full (m .notes .fwft) (shownBy part (m .state)) ≡ write.full (depthOf part) (m .state .write)
+unfolding shownBy linesOf
+full-told part m t g = rw (g .fwft) (full-by (m .state .read .mode) (write.full (depthOf part) (m .state .write)))
+
 module _ (part : Part) (m : Moment) (t : TrueCounts) (g : Agrees part m t) (p : Pins) (away : outside p ≡ true) where
   abbrev b : Notes
   b = m .notes
@@ -60,13 +65,13 @@ module _ (part : Part) (m : Moment) (t : TrueCounts) (g : Agrees part m t) (p : 
   abbrev s : State
   s = m .state
 
-  full-told : full (b .fwft) (shownBy part s) ≡ write.full (depthOf part) (s .write)
-  unfolding shownBy linesOf
-  full-told = rw (g .fwft) (full-by (s .read .mode) (write.full (depthOf part) (s .write)))
-
   pub accepts-told : accepts b p (shownBy part s) ≡ write.accepts (depthOf part) p (s .write)
   unfolding accepts write.accepts clocks.writeRises
-  accepts-told = rw (away, g .wclk, full-told)
+  accepts-told = rw (away, g .wclk, full-told part m t g)
+
+  pub wclk-told : wclkRises b p ≡ clocks.writeRises p (s .write)
+  unfolding clocks.writeRises
+  wclk-told = rw (away, g .wclk)
 
   pub rises-told : rclkRises b p ≡ clocks.readRises p (s .read)
   unfolding clocks.readRises
@@ -76,7 +81,7 @@ module _ (part : Part) (m : Moment) (t : TrueCounts) (g : Agrees part m t) (p : 
   unfolding retransmits read.retransmits clocks.readRises
   retransmits-told = rw (away, g .rclk)
 
-  reads-told : reads b p (shownBy part s) ≡ read.reads p (s .read)
+  pub reads-told : reads b p (shownBy part s) ≡ read.reads p (s .read)
   unfolding reads read.reads clocks.readRises
   reads-told = rw (away, g .rclk, ready-told part m t g)
 

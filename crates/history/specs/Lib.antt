@@ -9,6 +9,12 @@ pub mod ToldLaws
 pub mod LedLaws
 pub mod AnswerLaws
 pub mod TimeLaws
+pub mod Crossing
+pub mod CrossingLaws
+pub mod FlagLaws
+pub mod BackLaws
+pub mod LagLaws
+pub mod Flags
 pub mod RunLaws
 pub mod RunAnswerLaws
 pub mod Calls

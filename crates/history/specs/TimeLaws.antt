@@ -24,7 +24,7 @@ use Rattle.history.specs.EventLaws.{accepts-told, ready-told, retransmit
 use Rattle.history.specs.LedLaws.{countsLed, countsNext, told-led, told-next}
 use Rattle.history.specs.Onlooker.{Notes, Shown, accepts, outside, rclkRises, ready, retransmits}
 use Rattle.history.specs.Told.{Told}
-use Rattle.history.specs.Trace.{Moment, acceptsWord, led, next, rclkRisesIn, shownBy, takes, undisturbed}
+use Rattle.history.specs.Trace.{Moment, acceptsWord, calm, led, next, rclkRisesIn, shownBy, takes, undisturbed}
 
 -- a word's number is below the words accepted before each of so many latest rises of RCLK
 record Aged (rises number : ℕ) (t : TrueCounts) : Type 0 where
@@ -64,15 +64,16 @@ aged-on false accepted other age number following first second t g =
       four = λ l. g .four (omega arith);
     }
 
-on-by : (mrs prs : Bool) (t u : TrueCounts) → mrs && prs ≡ true → cond mrs (cond prs t u) u ≡ t
-on-by true true t u e = refl
-on-by true false t u e = absurd (true≢false (sym e))
-on-by false prs t u e = absurd (true≢false (sym e))
+-- outside reset
+pub on-by : {A : Type 0} (mrs prs : Bool) (on kept fresh : A) → mrs && prs ≡ true → cond mrs (cond prs on kept) fresh ≡ on
+on-by true true on kept fresh e = refl
+on-by true false on kept fresh e = absurd (true≢false (sym e))
+on-by false prs on kept fresh e = absurd (true≢false (sym e))
 
 module _ (part : Part) (m : Moment) (t : TrueCounts) (g : Told part m t) (p : Pins) (away : outside p ≡ true) where
   counts-on : countsAfter part p (m .state) t ≡ trueAfter (depthOf part) p (m .state .write) (m .state .read) t
   unfolding countsAfter
-  counts-on = on-by (p .mrs) (p .prs) _ noCounts away
+  counts-on = on-by (p .mrs) (p .prs) _ noCounts noCounts away
 
   aged-after : (age number : ℕ) → retransmits (m .notes) p ≡ false → Aged age number t
       → Aged (age + cond (rclkRises (m .notes) p) 1 0) number (countsAfter part p (m .state) t)
@@ -106,8 +107,7 @@ aged-by true true true rise age number t u e h g = absurd (true≢false (sym e))
 aged-by true false back rise age number t u e h g = absurd (true≢false (sym e))
 
 module _ (part : Part) where
-  aged-next : (m : Moment) (t : TrueCounts) (x age number : ℕ) → Told part m t
-      → not (takes part m x) || outside (pinsOf x) && not (retransmits (m .notes) (pinsOf x)) ≡ true → Aged age number t
+  aged-next : (m : Moment) (t : TrueCounts) (x age number : ℕ) → Told part m t → calm part m x ≡ true → Aged age number t
       → Aged (age + cond (takes part m x && rclkRises (m .notes) (pinsOf x)) 1 0) number (countsNext part m x t)
   unfolding countsNext takes
   aged-next m t x age number g e h =
@@ -119,8 +119,7 @@ module _ (part : Part) where
   unfolding undisturbed rclkRisesIn countsLed
   aged-led [] m t age number g e h = same-age age (age + 0) number t (omega arith) h
   aged-led (x ∷ xs) m t age number g e h =
-      let calm = not (takes part m x) || outside (pinsOf x) && not (retransmits (m .notes) (pinsOf x)) in
-      let both = and-eq-true-iff calm (undisturbed part (next part m x) xs) .0 e in
+      let both = and-eq-true-iff (calm part m x) (undisturbed part (next part m x) xs) .0 e in
       same-age _ _ number _ (omega arith)
       (aged-led xs (next part m x) (countsNext part m x t) _ number (told-next part m t g x) (both .1) (aged-next m t x age number g (both .0) h))
 

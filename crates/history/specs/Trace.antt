@@ -18,7 +18,7 @@ use Rattle.offsets.specs.declared.reading.Shows.the-variants.{Register}
 use Rattle.pins.specs.declared.record.Pins.{Pins}
 use Rattle.pins.specs.Record.{bit, pinsOf, word}
 use Rattle.pins.specs.Trace.{recordsFrom, wholeRecords}
-use Rattle.history.specs.Onlooker.{Notes, Shown, accepts, blank, noted, outside, rclkRises, retransmits}
+use Rattle.history.specs.Onlooker.{Notes, Shown, accepts, blank, noted, outside, rclkRises, retransmits, wclkRises}
 
 -- the model's state and memory, and the onlooker's notes
 pub record Moment : Type 0 where
@@ -41,10 +41,13 @@ wordsFrom depth memory count (suc many) = getD memory (placeOf depth count) 0 �
 unfoldable pub shownBy : Part → State → Shown
 shownBy part s = record { ff = linesOf part false s .ff; ef = linesOf part false s .ef; register = s .read .output }
 
--- what an answer's bits give is what the onlooker sees: the two flags, and the output register where OE is LOW and no offset is shown
+-- what an answer's bits give is what the onlooker sees: the flags, and the output register where OE is LOW and no offset is shown
 pub record Answers (part : Part) (p : Pins) (s : State) (answer : ℕ) : Type 0 where
   pub ff : bit 23 answer ≡ shownBy part s .ff
   pub ef : bit 22 answer ≡ shownBy part s .ef
+  pub hf : bit 21 answer ≡ linesOf part false s .hf
+  pub pae : bit 20 answer ≡ linesOf part false s .pae
+  pub paf : bit 19 answer ≡ linesOf part false s .paf
   pub register : p .oe ≡ false → s .reading .shows ≡ Register → word answer ≡ shownBy part s .register
 
 -- the answer of a record in the room for answers: three bytes, the first of most weight
@@ -90,15 +93,28 @@ module _ (part : Part) where
   unfoldable pub acceptsWord : Moment → ℕ → Bool
   acceptsWord m x = takes m x && accepts (m .notes) (pinsOf x) (shownBy part (m .state))
 
-  -- no reset and no retransmit among the samples that are taken
+  -- no reset and no retransmit where the sample is taken
+  abbrev pub calm : Moment → ℕ → Bool
+  calm m x = not (takes m x) || outside (pinsOf x) && not (retransmits (m .notes) (pinsOf x))
+
+  -- none among many samples
   unfoldable pub undisturbed : Moment → List ℕ → Bool
   undisturbed m [] = true
-  undisturbed m (x ∷ xs) = (not (takes m x) || outside (pinsOf x) && not (retransmits (m .notes) (pinsOf x))) && undisturbed (next m x) xs
+  undisturbed m (x ∷ xs) = calm m x && undisturbed (next m x) xs
 
-  -- how often RCLK rises in samples that are taken
+  -- how often RCLK rises in samples that are taken, and how often WCLK
   unfoldable pub rclkRisesIn : Moment → List ℕ → ℕ
   rclkRisesIn m [] = 0
   rclkRisesIn m (x ∷ xs) = cond (takes m x && rclkRises (m .notes) (pinsOf x)) 1 0 + rclkRisesIn (next m x) xs
+
+  unfoldable pub wclkRisesIn : Moment → List ℕ → ℕ
+  wclkRisesIn m [] = 0
+  wclkRisesIn m (x ∷ xs) = cond (takes m x && wclkRises (m .notes) (pinsOf x)) 1 0 + wclkRisesIn (next m x) xs
+
+  -- the write skew is met at the first of these rises
+  unfoldable pub writeSkewMet : Moment → List ℕ → Bool
+  writeSkewMet m [] = true
+  writeSkewMet m (x ∷ xs) = cond (takes m x && wclkRises (m .notes) (pinsOf x)) (pinsOf x .skew .write) (writeSkewMet (next m x) xs)
 
   -- a strict or a lenient run over a trace's bytes that goes on from a moment
   abbrev pub runFrom : Moment → Bool → List ℕ → List ℕ → List ℕ → Ended

@@ -34,7 +34,7 @@ use Rattle.history.specs.Told.{Agrees, Told}
 use Rattle.history.specs.Trace.{Moment, at, shownBy}
 use Rattle.history.specs.WordLaws.{delivered-after, holds-after, length-after, take-after}
 
-kept-fwft : (mode : Mode) (retransmitted delivered taken : Bool) → isFwft mode ≡ isFwft (modeAfter mode retransmitted delivered taken)
+pub kept-fwft : (mode : Mode) (retransmitted delivered taken : Bool) → isFwft mode ≡ isFwft (modeAfter mode retransmitted delivered taken)
 kept-fwft Standard retransmitted delivered taken = refl
 kept-fwft (Fwft untaken) retransmitted delivered taken = refl
 

@@ -21,6 +21,7 @@ use Rattle.views.specs.OrderLaws.{ordered-reset}
 use Rattle.views.specs.TrueCounts.{TrueCounts, noCounts}
 use Rattle.chip.specs.declared.state.State.{State}
 use Rattle.chip.specs.Advance.{advanced, running, stateAfter}
+use Rattle.chip.specs.HalfLaws.{held-exact}
 use Rattle.refusals.specs.Refuse.{refusalOf}
 use Rattle.refusals.specs.RefusalLaws.{allowed}
 use Rattle.chip.specs.Reset.{cleared, masterReset, partialReset, poweredUp}
@@ -92,7 +93,7 @@ module _ (part : Part) where
     exact = left-behind (depthOf part) (part-sized part) (s .write) (s .read) t (h .tracks)
 
     pub words-held : wordsHeld s ≡ t .written - t .read
-    words-held = exact (s .read .count .0) (t .read) (h .tracks .read) (omega arith) (omega arith)
+    words-held = held-exact part s t (h .tracks)
 
     near : (count earlier : ℕ) → count ≡ earlier % width → earlier ≤ t .written → t .written ≤ earlier + depthOf part
         → leb (less width (s .write .count .0) count) (depthOf part) ≡ true

@@ -10,4 +10,5 @@ pub mod RoundLaws
 pub mod DeliveryLaws
 pub mod AcceptLaws
 pub mod DecisionLaws
+pub mod ExactLaws
 pub mod CountLaws
