@@ -7,7 +7,6 @@ use Rattle.views.specs.declared.retransmit.Setup.{Setup}
 use Rattle.views.specs.declared.retransmit.View.{View}
 use Rattle.views.specs.declared.stages.ReadRise.{ReadRise}
 use Rattle.views.specs.declared.stages.WriteRise.{WriteRise}
-use Rattle.views.specs.Flags.{hfLow, paeLow, pafLow}
 use Rattle.views.specs.Retransmit.{isOver, isSeen, justBegun, setupAfter, viewAfter}
 use Rattle.views.specs.Stages.{latestRead, latestWrite, takenRead, takenWrite}
 
@@ -36,8 +35,3 @@ pub seen-at-second : (rises after later : Bool) (view : View)
     → let unseen = viewAfter true rises after view in let first = viewAfter false true true unseen in
     (isSeen unseen ≡ false) × (viewAfter false true false unseen ≡ unseen) × (isSeen first ≡ false) × (isSeen (viewAfter false true later first) ≡ true)
 seen-at-second rises after later view = (refl, refl, refl, refl)
-
--- Bench figures, part 255 with n = m = 127: both sides of each limit
-pub limits : (hfLow 8192 4096 ≡ false) × (hfLow 8192 4097 ≡ true) × (pafLow 8192 127 8064 ≡ false) × (pafLow 8192 127 8065 ≡ true)
-    × (paeLow 127 127 ≡ true) × (paeLow 127 128 ≡ false)
-limits = (refl, refl, refl, refl, refl, refl)

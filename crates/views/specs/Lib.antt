@@ -1,4 +1,5 @@
 pub mod Flags
+pub mod FlagLaws
 pub mod Stages
 pub mod Retransmit
 pub mod Laws
