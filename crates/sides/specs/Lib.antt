@@ -4,6 +4,8 @@ pub mod Write
 pub mod Held
 pub mod HeldLaws
 pub mod Laws
+pub mod ClockLaws
+pub mod FlagLaws
 pub mod SinceReset
 pub mod Tracks
 pub mod RoundLaws
