@@ -6,6 +6,7 @@ pub mod HeldLaws
 pub mod Laws
 pub mod ClockLaws
 pub mod FlagLaws
+pub mod StageLaws
 pub mod SinceReset
 pub mod Tracks
 pub mod RoundLaws
