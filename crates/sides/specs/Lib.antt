@@ -3,7 +3,8 @@ pub mod Read
 pub mod Write
 pub mod Held
 pub mod HeldLaws
-pub mod Laws
+pub mod SetupLaws
+pub mod SeenLaws
 pub mod ClockLaws
 pub mod FlagLaws
 pub mod StageLaws
