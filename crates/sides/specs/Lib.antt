@@ -8,6 +8,7 @@ pub mod SeenLaws
 pub mod ClockLaws
 pub mod FlagLaws
 pub mod StageLaws
+pub mod RegisterLaws
 pub mod SinceReset
 pub mod Tracks
 pub mod RoundLaws
