@@ -2,14 +2,14 @@
 use Prim.Native.Nat.{ℕ, _+_, _*_, _/_, _%_, _^_, _≤_}
 use mathlib.Core.Bool.{Bool, true, false, not, cond, _&&_, true≢false}
 use mathlib.Core.Logic.{_≢_}
-use mathlib.Core.Path.{_≡_, refl, sym, ap, _∙_}
+use mathlib.Core.Path.{_≡_, refl, ap, _∙_}
 use lib.Dec.{eqb}
 use lib.Pow.{field, mod-mod-pow, mod-pow-add}
 use borrow.Author.Tests.{eq-eqb, eqb-false, eqb-true, ne-eqb}
 use native.Mathlib.Nat.{mod-mod}
 use native.Mathlib.Omega.{arith}
 use Rattle.counts.specs.declared.part.Part.{Part}
-use Rattle.counts.specs.Part.{lowBits, offsetBits, serialBits}
+use Rattle.counts.specs.Part.{offsetBits, serialBits}
 use Rattle.pins.specs.declared.record.Pins.{Pins}
 use Rattle.offsets.specs.declared.registers.Method.{Method}
 use Rattle.offsets.specs.declared.registers.Method.the-variants.{Parallel, Serial}

@@ -2,13 +2,14 @@ pub mod Clocks
 pub mod Read
 pub mod Write
 pub mod Held
-pub mod HeldLaws
-pub mod SetupLaws
-pub mod SeenLaws
 pub mod ClockLaws
+pub mod HeldLaws
 pub mod FlagLaws
 pub mod StageLaws
 pub mod RegisterLaws
+pub mod RetransmitLaws
+pub mod SetupLaws
+pub mod SeenLaws
 pub mod SinceReset
 pub mod Tracks
 pub mod RoundLaws

@@ -3,11 +3,9 @@ use Prim.Native.Nat.{ℕ, _+_, _%_, _^_}
 use mathlib.Core.Bool.{Bool, true, false, not, _&&_, and-false, and-true, or-false, or-true, true≢false}
 use mathlib.Core.Logic.{_≢_}
 use mathlib.Core.Path.{_≡_, refl, _∙_}
-use lib.Dec.{eqb}
 use borrow.Author.Tests.{eq-eqb, ne-eqb}
 use Rattle.counts.specs.Round.{width}
 use Rattle.pins.specs.declared.record.Pins.{Pins}
-use Rattle.sides.specs.declared.read.Mode.{Mode}
 use Rattle.sides.specs.declared.read.Mode.the-variants.{Standard, Fwft}
 use Rattle.sides.specs.declared.read.ReadSide.{ReadSide}
 use Rattle.sides.specs.declared.write.WriteSide.{WriteSide}
@@ -47,7 +45,7 @@ module _ (n : ℕ) (p : Pins) (fetched : ℕ) (w : WriteSide) (r : ReadSide) whe
   unfolding readAfter readCountAfter retransmits
   delivered-by d high = record { output = simp d; count = simp (d, high, and-false) }
 
-  left-by : delivers p r ≡ false → Left p r next
+  pub left-by : delivers p r ≡ false → Left p r next
   unfolding readAfter readCountAfter retransmits
   left-by d = record { output = simp d; count = λ high. simp (d, high, and-false) }
 

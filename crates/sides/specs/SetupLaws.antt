@@ -1,10 +1,8 @@
--- Retransmit, on the read side: what the rise with RT LOW does, and what comes back at the second and third rise after it and not before.
+-- Retransmit, on the read side: what comes back at the second and at the third rise after it, and not before.
 use Prim.Native.Nat.{ℕ, zero, suc, _<_}
-use mathlib.Core.Bool.{Bool, true, false, not, and-false, and-true, or-false}
-use mathlib.Core.Logic.{_↔_, _≢_}
+use mathlib.Core.Bool.{Bool, true, false}
+use mathlib.Core.Logic.{_≢_}
 use mathlib.Core.Path.{_≡_, refl, _∙_}
-use lib.Dec.{eqb}
-use borrow.Author.Tests.{eqb-false, ne-eqb, not-true}
 use native.Mathlib.Omega.{arith}
 use Rattle.pins.specs.declared.record.Pins.{Pins}
 use Rattle.sides.specs.declared.read.Mode.{Mode}
@@ -14,39 +12,13 @@ use Rattle.sides.specs.declared.write.WriteSide.{WriteSide}
 use Rattle.sides.specs.Clocks.{readRises}
 use Rattle.sides.specs.DeliveryLaws.{none-unseen}
 use Rattle.sides.specs.FlagLaws.{ReadFlags, read-flags}
-use Rattle.sides.specs.HeldLaws.{none-by, read-held}
-use Rattle.sides.specs.Read.{delivers, modeAfter, readAfter, readCountAfter, reads, ready, readyBy, retransmits, seesWord}
+use Rattle.sides.specs.HeldLaws.{read-held}
+use Rattle.sides.specs.Read.{modeAfter, readAfter, readCountAfter, reads, ready, readyBy, retransmits, seesWord}
+use Rattle.sides.specs.RegisterLaws.{Delivered, fwft-next}
+use Rattle.sides.specs.RetransmitLaws.{none-ready, retransmitted}
 use Rattle.views.specs.declared.retransmit.Setup.{Setup}
 use Rattle.views.specs.declared.retransmit.Setup.the-variants.{Over, OneMore, TwoMore}
 use Rattle.views.specs.Retransmit.{counted, isOver, justBegun}
-
-pub record Retransmitted (r after : ReadSide) : Type 0 where
-  pub count : after .count .0 ≡ 0
-  pub output : after .output ≡ r .output
-  pub pae : after .pae ≡ r .pae
-  pub ready : ready after ≡ false
-
-none-ready : (mode : Mode) (delivered read : Bool) → readyBy (modeAfter mode true delivered read) false ≡ false
-none-ready Standard delivered read = refl
-none-ready (Fwft untaken) delivered read = refl
-
-none-delivered : (p : Pins) (r : ReadSide) → readRises p r ≡ true → p .rt ≡ false → delivers p r ≡ false
-unfolding delivers reads
-none-delivered p r e low = simp (e, low, and-false) (none-by (r .mode))
-
-output-kept : (n : ℕ) (p : Pins) (fetched : ℕ) (w : WriteSide) (r : ReadSide) → delivers p r ≡ false → readAfter n p fetched w r .output ≡ r .output
-unfolding readAfter
-output-kept n p fetched w r e = simp e
-
-pub retransmitted : (n : ℕ) (p : Pins) (fetched : ℕ) (w : WriteSide) (r : ReadSide) → readRises p r ≡ true → p .rt ≡ false
-    → Retransmitted r (readAfter n p fetched w r)
-unfolding readAfter readCountAfter retransmits ready seesWord
-retransmitted n p fetched w r e low = record {
-  count = simp (e, low);
-  output = output-kept n p fetched w r (none-delivered p r e low);
-  pae = simp (e, low);
-  ready = simp (e, low, none-ready (r .mode));
-}
 
 -- a read side so many rises of RCLK after a retransmit, before which PAE had the level `pae`
 pub data Following (pae : Bool) : ℕ → ReadSide → Type 0 where
@@ -146,19 +118,16 @@ not-before pae k r f =
       count = h .count;
     }
 
-apart-told : (a b : ℕ) → (not (eqb a b) ≡ true) ↔ (a ≢ b)
-apart-told a b = (λ e. eqb-false a b (not-true (eqb a b) e), λ differ. simp (ne-eqb a b differ))
-
 module _ (pae : Bool) (n : ℕ) (p : Pins) (fetched : ℕ) (w : WriteSide) (r : ReadSide) (e : readRises p r ≡ true) (high : p .rt ≡ true) where
   -- from the second on EF and PAE are worked out
   pub from-second : (k : ℕ) → Following pae (suc k) r → ReadFlags n r (readAfter n p fetched w r)
   from-second k f =
       read-flags n p fetched w r e (rw (one-more pae (suc k) r (waits pae (suc k) r f) n p fetched w e high .setup))
 
-  -- at the third a word is delivered in FWFT where the second stage held one
-  pub at-third : (untaken : Bool) → r .mode ≡ Fwft untaken → Following pae 2 r → (ready (readAfter n p fetched w r) ≡ true) ↔ (r .second .0 ≢ r .count .0)
-  unfolding ready readAfter retransmits delivers reads seesWord
+  -- at the third FWFT delivers the word that the second stage held
+  pub at-third : (untaken : Bool) → r .mode ≡ Fwft untaken → Following pae 2 r → r .second .0 ≢ r .count .0
+      → Delivered fetched r (readAfter n p fetched w r) × (ready (readAfter n p fetched w r) ≡ true)
   at-third untaken mode f =
       let h = waits pae 2 r f in
       let taken : untaken ≡ false = rw mode at (h .none (omega arith)) in
-      rw (e, high, mode, taken, h .setup) (simp (and-true, or-false) (apart-told (r .second .0) (r .count .0)))
+      fwft-next n p fetched w r untaken mode e high (rw taken) (rw (h .setup))
