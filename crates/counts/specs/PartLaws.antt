@@ -1,14 +1,16 @@
--- A part is looked up by its own number and by no other, and the width of the counts is a multiple of its depth.
+-- Parts and paper authority, and Offsets: a part is looked up by its own number and by no other, its sizes in figures, and the width of the counts
+-- is a multiple of its depth.
 use Prim.Native.Nat.{ℕ, _+_, _^_, _≤_}
 use mathlib.Core.Path.{_≡_, refl}
 use mathlib.Core.Bool.{Bool, true, false, cond}
 use lib.Dec.{eqb}
+use lib.Pow.{pow-mono}
 use native.Mathlib.Omega.{arith}
 use borrow.Author.Tests.{eqb-true}
 use Rattle.counts.specs.declared.part.Part.{Part}
 use Rattle.counts.specs.declared.part.Part.the-variants.{Idt72V255LA, Idt72V265LA}
 use Rattle.counts.specs.declared.part.Lookup.the-variants.{Known, Unknown}
-use Rattle.counts.specs.Part.{depthOf, numberOf, partOf, placeBits}
+use Rattle.counts.specs.Part.{depthOf, numberOf, offsetBits, partOf, placeBits, serialBits}
 use Rattle.counts.specs.Round.{width}
 
 pub own-number : (part : Part) → partOf (numberOf part) ≡ Known part
@@ -33,9 +35,26 @@ no-other-number number part = known-by number part (eqb number 255) (eqb number 
 pub compared-in-full : partOf 65791 ≡ Unknown
 compared-in-full = refl
 
+pub in-figures : (depthOf Idt72V255LA ≡ 8192) × (offsetBits Idt72V255LA ≡ 13) × (serialBits Idt72V255LA ≡ 26)
+    × (depthOf Idt72V265LA ≡ 16384) × (offsetBits Idt72V265LA ≡ 14) × (serialBits Idt72V265LA ≡ 28)
+in-figures = (refl, refl, refl, refl, refl, refl)
+
+places : (part : Part) → (1 ≤ placeBits part) × (placeBits part ≤ 14)
+places Idt72V255LA = omega arith
+places Idt72V265LA = omega arith
+
+-- any power of two above 1, and no higher than the 14th
+power-bounds : (k : ℕ) → 1 ≤ k → k ≤ 14 → (2 ≤ 2 ^ k) × (2 ^ k ≤ 2 ^ 14)
+power-bounds k h l = (pow-mono {i = 1} {j = k} h, pow-mono {i = k} {j = 14} l)
+
+depth-bounds : (part : Part) → (2 ≤ depthOf part) × (depthOf part ≤ 2 ^ 14)
+depth-bounds part = let bits = places part in power-bounds (placeBits part) (bits .0) (bits .1)
+
 pub two-at-least : (part : Part) → 2 ≤ depthOf part
-two-at-least Idt72V255LA = omega arith
-two-at-least Idt72V265LA = omega arith
+two-at-least part = depth-bounds part .0
+
+pub deepest : (part : Part) → depthOf part ≤ 2 ^ 14
+deepest part = depth-bounds part .1
 
 -- bits of a count beyond those of a place
 abbrev pub roundBits : Part → ℕ

@@ -1,5 +1,6 @@
 pub mod Registers
 pub mod Loading
+pub mod LoadLaws
 pub mod Reading
+pub mod ReadLaws
 pub mod Fits
-pub mod Laws

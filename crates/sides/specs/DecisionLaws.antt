@@ -15,6 +15,7 @@ use Rattle.sides.specs.declared.read.Mode.the-variants.{Standard, Fwft}
 use Rattle.sides.specs.declared.read.ReadSide.{ReadSide}
 use Rattle.sides.specs.declared.write.WriteSide.{WriteSide}
 use Rattle.sides.specs.DeliveryLaws.{all-delivered, none-unseen}
+use Rattle.sides.specs.FlagLaws.{full-told}
 use Rattle.sides.specs.Read.{delivers, ready, readyBy, seesWord}
 use Rattle.sides.specs.Tracks.{Tracks, Owes}
 use Rattle.sides.specs.Write.{full}
@@ -55,10 +56,9 @@ ready-by (Fwft false) seen t h o l = absurd (omega arith)
 
 module _ (depth : ℕ) (z : Sized depth) (w : WriteSide) (r : ReadSide) (t : TrueCounts) (g : Tracks depth w r t) where
   pub room-left : full depth w ≡ false → t .written < t .writeSecond + depth
-  unfolding full
   room-left e =
       room-by depth (w .count .0) (w .second .0) (t .written) (t .writeSecond) (z .twice) (g .written .count) (g .writeSecond)
-      (omega arith) (omega arith) (eqb-false _ _ e)
+      (omega arith) (omega arith) (λ same. true≢false (sym (full-told depth w .1 same) ∙ e))
 
   met : r .second .0 ≡ r .count .0 → t .readSecond ≡ t .read
   met = met-by depth (r .second .0) (r .count .0) (t .readSecond) (t .read) (z .twice) (g .readSecond) (g .read) (omega arith) (omega arith)

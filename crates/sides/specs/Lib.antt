@@ -2,8 +2,14 @@ pub mod Clocks
 pub mod Read
 pub mod Write
 pub mod Held
+pub mod ClockLaws
 pub mod HeldLaws
-pub mod Laws
+pub mod FlagLaws
+pub mod StageLaws
+pub mod RegisterLaws
+pub mod RetransmitLaws
+pub mod SetupLaws
+pub mod SeenLaws
 pub mod SinceReset
 pub mod Tracks
 pub mod RoundLaws

@@ -10,6 +10,7 @@ use Rattle.sides.specs.declared.write.WriteSide.{WriteSide}
 use Rattle.sides.specs.Clocks.{readRises}
 use Rattle.sides.specs.HeldLaws.{none-by}
 use Rattle.sides.specs.Read.{delivers, modeAfter, readAfter, readCountAfter, reads, ready, readyBy, retransmits, seesWord}
+use Rattle.sides.specs.RegisterLaws.{left-by}
 
 pub record Retransmitted (r after : ReadSide) : Type 0 where
   pub count : after .count .0 ≡ 0
@@ -17,7 +18,7 @@ pub record Retransmitted (r after : ReadSide) : Type 0 where
   pub pae : after .pae ≡ r .pae
   pub ready : ready after ≡ false
 
-none-ready : (mode : Mode) (delivered read : Bool) → readyBy (modeAfter mode true delivered read) false ≡ false
+pub none-ready : (mode : Mode) (delivered read : Bool) → readyBy (modeAfter mode true delivered read) false ≡ false
 none-ready Standard delivered read = refl
 none-ready (Fwft untaken) delivered read = refl
 
@@ -25,16 +26,12 @@ none-delivered : (p : Pins) (r : ReadSide) → readRises p r ≡ true → p .rt 
 unfolding delivers reads
 none-delivered p r e low = simp (e, low, and-false) (none-by (r .mode))
 
-output-kept : (n : ℕ) (p : Pins) (fetched : ℕ) (w : WriteSide) (r : ReadSide) → delivers p r ≡ false → readAfter n p fetched w r .output ≡ r .output
-unfolding readAfter
-output-kept n p fetched w r e = simp e
-
 pub retransmitted : (n : ℕ) (p : Pins) (fetched : ℕ) (w : WriteSide) (r : ReadSide) → readRises p r ≡ true → p .rt ≡ false
     → Retransmitted r (readAfter n p fetched w r)
 unfolding readAfter readCountAfter retransmits ready seesWord
 retransmitted n p fetched w r e low = record {
   count = simp (e, low);
-  output = output-kept n p fetched w r (none-delivered p r e low);
+  output = left-by n p fetched w r (none-delivered p r e low) .output;
   pae = simp (e, low);
   ready = simp (e, low, none-ready (r .mode));
 }

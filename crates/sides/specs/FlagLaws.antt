@@ -1,0 +1,62 @@
+-- The two sides: the flags after a rise of their own clock go by the count after it and by what the first stage held before it,
+-- whatever LD and the mode are, and PAF and PAE by the offset handed in; without such a rise PAF and PAE keep their level.
+use Prim.Native.Nat.{ℕ, _-_, _≤_}
+use mathlib.Core.Bool.{Bool, true, false, not, _&&_}
+use mathlib.Core.Logic.{_↔_, Iff·trans}
+use mathlib.Core.Path.{_≡_, ap}
+use borrow.Author.Tests.{eq-eqb, eqb-true, not-false}
+use Rattle.counts.specs.Round.{ahead}
+use Rattle.pins.specs.declared.record.Pins.{Pins}
+use Rattle.sides.specs.declared.read.Mode.the-variants.{Standard}
+use Rattle.sides.specs.declared.read.ReadSide.{ReadSide}
+use Rattle.sides.specs.declared.write.WriteSide.{WriteSide}
+use Rattle.sides.specs.Clocks.{readRises, writeRises}
+use Rattle.sides.specs.Read.{readAfter, ready, secondAfterRead, seesWord}
+use Rattle.sides.specs.Write.{full, secondAfterWrite, writeAfter}
+use Rattle.views.specs.FlagLaws.{decided}
+use Rattle.views.specs.Retransmit.{isOver}
+
+-- a level that is LOW where a test holds
+low-by : {Holds : Type 0} (test : Bool) → (test ≡ true) ↔ Holds → (not test ≡ false) ↔ Holds
+low-by test h = Iff·trans (not-false test, ap not) h
+
+-- full at any moment: by the second stage
+pub full-told : (depth : ℕ) (w : WriteSide) → (full depth w ≡ true) ↔ (ahead (w .count) (w .second) ≡ depth)
+unfolding full
+full-told depth w = decided depth 0 0 (ahead (w .count) (w .second)) .full
+
+pub record WriteFlags (depth m : ℕ) (w after : WriteSide) : Type 0 where
+  pub full : (full depth after ≡ true) ↔ (ahead (after .count) (w .first) ≡ depth)
+  pub paf : (after .paf ≡ false) ↔ (depth - m ≤ ahead (after .count) (w .first))
+
+module _ (depth m : ℕ) (p : Pins) (r : ReadSide) (w : WriteSide) where
+  pub write-flags : writeRises p w ≡ true → WriteFlags depth m w (writeAfter depth m p r w)
+  unfolding writeAfter secondAfterWrite full
+  write-flags e =
+      let words = ahead (writeAfter depth m p r w .count) (w .first) in
+      record { full = rw e (decided depth m 0 words .full); paf = rw e (low-by _ (decided depth m 0 words .paf)) }
+
+  pub paf-kept : writeRises p w ≡ false → writeAfter depth m p r w .paf ≡ w .paf
+  unfolding writeAfter
+  paf-kept e = rw e
+
+-- EF in Standard, and PAE
+pub record ReadFlags (n : ℕ) (r after : ReadSide) : Type 0 where
+  pub ef : after .mode ≡ Standard → (ready after ≡ false) ↔ (r .first .0 ≡ after .count .0)
+  pub pae : (after .pae ≡ false) ↔ (ahead (r .first) (after .count) ≤ n)
+
+module _ (n : ℕ) (p : Pins) (fetched : ℕ) (w : WriteSide) (r : ReadSide) where
+  abbrev next : ReadSide
+  next = readAfter n p fetched w r
+
+  -- save during a retransmit's setup
+  pub read-flags : readRises p r ≡ true → isOver (next .setup) ≡ true → ReadFlags n r next
+  unfolding readAfter secondAfterRead ready seesWord
+  read-flags e over = record {
+    ef = λ standard. rw (standard, over, e) (low-by _ (eqb-true (r .first .0) (next .count .0), eq-eqb (r .first .0) (next .count .0)));
+    pae = rw (over, e) (low-by _ (decided 0 0 n (ahead (r .first) (next .count)) .pae));
+  }
+
+  pub pae-kept : readRises p r && isOver (next .setup) ≡ false → next .pae ≡ r .pae
+  unfolding readAfter
+  pae-kept e = rw e
