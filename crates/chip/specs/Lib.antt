@@ -11,3 +11,6 @@ pub mod ResetLaws
 pub mod SinceReset
 pub mod Unique
 pub mod ThreeLaws
+pub mod Levels
+pub mod Tells
+pub mod FlagLaws

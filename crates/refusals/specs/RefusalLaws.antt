@@ -1,8 +1,9 @@
 -- What is turned away: what a sample that is taken outside reset does not ask for.
 use Prim.Native.Nat.{ℕ, suc, _-_, _<_}
-use mathlib.Core.Bool.{Bool, true, false, _&&_, and-eq-true-iff, true≢false}
+use mathlib.Core.Bool.{Bool, true, false, _&&_, and-eq-true-iff}
 use mathlib.Core.Logic.{inl, inr}
 use mathlib.Core.Path.{_≡_, refl, sym}
+use borrow.Author.Tests.{not-true}
 use native.Mathlib.Omega.{arith}
 use Rattle.counts.specs.declared.part.Part.{Part}
 use Rattle.counts.specs.Part.{depthOf}
@@ -14,22 +15,15 @@ use Rattle.sides.specs.SinceReset.{Tallies}
 use Rattle.sides.specs.Tracks.{Allowed}
 use Rattle.views.specs.TrueCounts.{TrueCounts}
 use Rattle.chip.specs.declared.state.State.{State}
+use Rattle.chip.specs.Tells.{high-where, none}
 use Rattle.refusals.specs.Refuse.{refusalOf, refusesTen}
-use Rattle.refusals.specs.RowLaws.{Tells, yes, no, first-row, retransmit, row-ten}
+use Rattle.refusals.specs.RowLaws.{first-row, retransmit, row-ten}
 use Rattle.refusals.specs.Rows.{Given, mostWords}
 
 -- a row that did not give the number does not hold
 passed : {Row Further : Type 0} {number : ℕ} → Given 0 (suc number) Row Further → (¬ Row) × Further
 passed (inl x) = absurd (omega (arith, x .1))
 passed (inr x) = x
-
-told : {A : Type 0} {test : Bool} → Tells A test → test ≡ true → A
-told (yes x) e = x
-told (no x) e = absurd (true≢false (sym e))
-
-refuted : {A : Type 0} {test : Bool} → Tells A test → ¬ A → test ≡ false
-refuted (yes x) n = absurd (n x)
-refuted (no x) n = refl
 
 not-low : (level : Bool) → ¬ (level ≡ false) → level ≡ true
 not-low true n = refl
@@ -48,9 +42,9 @@ allowed part p s t e outside k =
     let eight = passed (passed (passed (passed (first-row (t .written) part p s k 0 (sym e)) .1) .1) .1) in
     let nine = passed (eight .1) in
     let ten = passed (nine .1) in
-    let back = told (retransmit p s) in
+    let back = high-where (retransmit p s) .0 in
     record {
-      seen = refuted (row-ten p s) (λ x. ten .0 (high, x));
+      seen = not-true _ (high-where (none (row-ten p s)) .1 (λ x. ten .0 (high, x)));
       few = λ f. room-left part (s .read .mode) (t .written) (λ more. nine .0 (high, (back f .0, back f .1, inr more)));
       alone = λ f. not-low (p .wen) (λ low. eight .0 (high, (back f .0, back f .1, inr low)));
     }

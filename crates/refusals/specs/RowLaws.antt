@@ -1,10 +1,9 @@
 -- What is turned away: the number given is that of the first row that holds, and no other.
 use Prim.Native.Nat.{ℕ, _+_, _-_, _<_}
-use mathlib.Core.Bool.{Bool, true, false, not, cond, _&&_, _||_, true≢false}
-use mathlib.Core.Logic.{_⊎_, inl, inr, ⊎-elim, _≢_, _↔_}
+use mathlib.Core.Bool.{Bool, true, false, not, cond, _&&_}
+use mathlib.Core.Logic.{inl, inr, _≢_, _↔_}
 use mathlib.Core.Path.{_≡_, refl, sym, _∙_}
-use lib.Dec.{eqb, ltb}
-use borrow.Author.Tests.{eqb-false, eqb-true, ltb-false, ltb-true}
+use lib.Dec.{ltb}
 use native.Mathlib.Omega.{arith}
 use Rattle.counts.specs.declared.part.Part.{Part}
 use Rattle.counts.specs.Either.{either}
@@ -21,53 +20,11 @@ use Rattle.views.specs.declared.retransmit.View.{View}
 use Rattle.views.specs.declared.retransmit.View.the-variants.{Unseen, Taken, Seen}
 use Rattle.views.specs.Retransmit.{isSeen}
 use Rattle.chip.specs.declared.state.State.{State}
+use Rattle.chip.specs.Levels.{Low, ReadRise, WriteRise}
+use Rattle.chip.specs.Tells.{Tells, yes, no, at-most, both, four, high, low, one, same, three}
 use Rattle.refusals.specs.NineLaws.{nine-exact}
 use Rattle.refusals.specs.Refuse.{asksUnselected, refusalOf, refusesEight, refusesFive, refusesNine, refusesSeven, refusesSix, refusesTen, retransmitMost, severalLow}
-use Rattle.refusals.specs.Rows.{FirstRow, Given, High, Low, ReadRise, Row5, Row6, Row7, Row8, Row9, Row10, Unselected, WriteRise, lows, mostWords}
-
--- a test tells whether something holds
-pub data Tells (A : Type 0) : Bool → Type 0 where
-  yes : A → Tells A true
-  no : (¬ A) → Tells A false
-
-high : (level : Bool) → Tells (High level) level
-high true = yes refl
-high false = no (λ e. true≢false (sym e))
-
-low : (level : Bool) → Tells (Low level) (not level)
-low true = no true≢false
-low false = yes refl
-
-above : (limit words : ℕ) (test : Bool) → ltb limit words ≡ test → Tells (limit < words) test
-above limit words true e = yes (ltb-true limit words e)
-above limit words false e = no (λ h. omega (arith, ltb-false limit words e))
-
-same : (a b : ℕ) (test : Bool) → eqb a b ≡ test → Tells (a ≡ b) test
-same a b true e = yes (eqb-true a b e)
-same a b false e = no (eqb-false a b e)
-
-both : {A B : Type 0} {a b : Bool} → Tells A a → Tells B b → Tells (A × B) (a && b)
-both (yes x) (yes y) = yes (x, y)
-both (yes x) (no y) = no (λ z. y (z .1))
-both (no x) t = no (λ z. x (z .0))
-
-three : {A B C : Type 0} {a b c : Bool} → Tells A a → Tells B b → Tells C c → Tells (A × B × C) (a && b && c)
-three (yes x) (yes y) (yes z) = yes (x, y, z)
-three (yes x) (yes y) (no z) = no (λ all. z (all .2))
-three (yes x) (no y) t = no (λ all. y (all .1))
-three (no x) s t = no (λ all. x (all .0))
-
-four : {A B C D : Type 0} {a b c d : Bool} → Tells A a → Tells B b → Tells C c → Tells D d → Tells (A × B × C × D) (a && b && c && d)
-four (yes x) (yes y) (yes z) (yes w) = yes (x, y, z, w)
-four (yes x) (yes y) (yes z) (no w) = no (λ all. w (all .3))
-four (yes x) (yes y) (no z) t = no (λ all. z (all .2))
-four (yes x) (no y) s t = no (λ all. y (all .1))
-four (no x) r s t = no (λ all. x (all .0))
-
-one : {A B : Type 0} {a b : Bool} → Tells A a → Tells B b → Tells (A ⊎ B) (a || b)
-one (yes x) t = yes (inl x)
-one (no x) (yes y) = yes (inr y)
-one (no x) (no y) = no (⊎-elim x y)
+use Rattle.refusals.specs.Rows.{FirstRow, Given, Row5, Row6, Row7, Row8, Row9, Row10, Unselected, lows, mostWords}
 
 several : (wen ren sen : Bool) → Tells (1 < lows wen + lows ren + lows sen) (severalLow wen ren sen)
 several true true true = no (omega arith)
@@ -84,8 +41,8 @@ unselected Serial p = low (p .wen)
 
 more-than-most : (part : Part) (mode : Mode) (accepted : ℕ)
     → Tells (mostWords part mode - 2 < accepted) (ltb (retransmitMost (depthOf part) mode) accepted)
-more-than-most part Standard accepted = above _ _ _ refl
-more-than-most part (Fwft untaken) accepted = above _ _ _ refl
+more-than-most part Standard accepted = at-most _ _
+more-than-most part (Fwft untaken) accepted = at-most _ _
 
 unseen : (view : View) → Tells (view ≢ Seen) (not (isSeen view))
 unseen Unseen = yes (λ e. let z : _≡_ {A = ℕ} 0 1 = cc in omega arith)
@@ -124,7 +81,7 @@ module _ (p : Pins) (s : State) where
   unfolding retransmits
   row-nine accepted part t =
       rw (nine-exact accepted part p s t)
-      (three read-rise (low (p .rt)) (one (same accepted 0 _ refl) (more-than-most part (s .read .mode) accepted)))
+      (three read-rise (low (p .rt)) (one (same accepted 0) (more-than-most part (s .read .mode) accepted)))
 
   pub row-ten : Tells (Row10 p s) (refusesTen p s)
   unfolding refusesTen

@@ -12,16 +12,7 @@ use Rattle.sides.specs.declared.read.Mode.{Mode}
 use Rattle.sides.specs.declared.read.Mode.the-variants.{Standard, Fwft}
 use Rattle.views.specs.declared.retransmit.View.the-variants.{Seen}
 use Rattle.chip.specs.declared.state.State.{State}
-
-abbrev pub High : Bool → Type 0
-High level = level ≡ true
-
-abbrev pub Low : Bool → Type 0
-Low level = level ≡ false
-
--- by the level last accepted and the present one
-abbrev pub Rise : Bool → Bool → Type 0
-Rise last now = Low last × High now
+use Rattle.chip.specs.Levels.{High, Low, Outside, ReadRise, WriteRise}
 
 -- how many of one pin are LOW
 abbrev pub lows : Bool → ℕ
@@ -37,15 +28,6 @@ Unselected Serial p = Low (p .wen)
 abbrev pub mostWords : Part → Mode → ℕ
 mostWords part Standard = depthOf part
 mostWords part (Fwft untaken) = depthOf part + 1
-
-abbrev pub Outside : Pins → Type 0
-Outside p = High (p .mrs) × High (p .prs)
-
-abbrev pub WriteRise : Pins → State → Type 0
-WriteRise p s = Rise (s .write .level) (p .wclk)
-
-abbrev pub ReadRise : Pins → State → Type 0
-ReadRise p s = Rise (s .read .level) (p .rclk)
 
 abbrev pub Row5 : Pins → State → Type 0
 Row5 p s = Low (s .started) × High (p .mrs)
