@@ -20,11 +20,16 @@ use Rattle.chip.specs.declared.state.State.{State}
 use Rattle.chip.specs.Advance.{running, stateAfter}
 use Rattle.chip.specs.Answer.{answerOf, linesOf}
 use Rattle.chip.specs.Levels.{High, Low, Outside, ReadRise, WriteRise}
-use Rattle.chip.specs.Tells.{Tells, yes, no, at-most, both, high-where, low-where, none, same}
+use Rattle.chip.specs.Tells.{Tells, yes, no, at-most, both, fails, high-where, low-where, none, read-rise, same, write-rise}
 
 -- a count less an earlier one, round the width
 abbrev pub apart : ℕ → ℕ → ℕ
 apart count earlier = (count + (2 ^ 16 - earlier)) % 2 ^ 16
+
+over : (setup : Setup) → Tells (setup ≡ Over) (isOver setup)
+over Over = yes refl
+over OneMore = no (λ e. let z : _≡_ {A = ℕ} 0 1 = cc in omega arith)
+over TwoMore = no (λ e. let z : _≡_ {A = ℕ} 0 1 = cc in omega arith)
 
 module _ (part : Part) (p : Pins) (fetched : ℕ) (s : State) (outside : Outside p) where
   -- by the offset from before the sample, whatever the sample loads
@@ -33,17 +38,26 @@ module _ (part : Part) (p : Pins) (fetched : ℕ) (s : State) (outside : Outside
   unfolding stateAfter running writeAfter writeRises
   paf-judged rise = simp (outside .0, outside .1, rise .0, rise .1) (low-where (at-most _ _))
 
-  pub pae-judged : ReadRise p s → stateAfter part p fetched s .read .setup ≡ Over → let r = stateAfter part p fetched s .read in
+  pub paf-held : ¬ WriteRise p s → stateAfter part p fetched s .write .paf ≡ s .write .paf
+  unfolding stateAfter running writeAfter
+  paf-held still = simp (outside .0, outside .1, fails (write-rise p s) still)
+
+  -- at a rise of RCLK at which no retransmit's setup runs on
+  abbrev pub Judged : Type 0
+  Judged = ReadRise p s × (stateAfter part p fetched s .read .setup ≡ Over)
+
+  pub pae-judged : Judged → let r = stateAfter part p fetched s .read in
       Low (r .pae) ↔ (apart (r .second .0) (r .count .0) ≤ s .offsets .n)
   unfolding stateAfter running readAfter readRises
-  pae-judged rise over =
-      let again : setupAfter true (p .rt) (s .read .setup) ≡ Over = simp (outside .0, outside .1, rise .0, rise .1) at over in
+  pae-judged (rise, done) =
+      let again : setupAfter true (p .rt) (s .read .setup) ≡ Over = simp (outside .0, outside .1, rise .0, rise .1) at done in
       simp (outside .0, outside .1, rise .0, rise .1, again) (low-where (at-most _ _))
 
-over : (setup : Setup) → Tells (setup ≡ Over) (isOver setup)
-over Over = yes refl
-over OneMore = no (λ e. let z : _≡_ {A = ℕ} 0 1 = cc in omega arith)
-over TwoMore = no (λ e. let z : _≡_ {A = ℕ} 0 1 = cc in omega arith)
+  pub pae-held : ¬ Judged → stateAfter part p fetched s .read .pae ≡ s .read .pae
+  unfolding stateAfter running readAfter
+  pae-held not-judged =
+      let waits : ¬ (ReadRise p s × (setupAfter (readRises p (s .read)) (p .rt) (s .read .setup) ≡ Over)) = simp (outside .0, outside .1) at not-judged in
+      simp (outside .0, outside .1, fails (both (read-rise p s) (over _)) waits)
 
 module _ (part : Part) (p : Pins) (s : State) where
   -- HF, at all times

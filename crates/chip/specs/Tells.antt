@@ -6,7 +6,10 @@ use mathlib.Core.Path.{_≡_, refl, sym}
 use lib.Dec.{eqb, leb}
 use borrow.Author.Tests.{eqb-false, eqb-true, leb-false, leb-true}
 use native.Mathlib.Omega.{arith}
-use Rattle.chip.specs.Levels.{High, Low}
+use Rattle.pins.specs.declared.record.Pins.{Pins}
+use Rattle.sides.specs.Clocks.{readRises, writeRises}
+use Rattle.chip.specs.declared.state.State.{State}
+use Rattle.chip.specs.Levels.{High, Low, ReadRise, WriteRise}
 
 pub data Tells (A : Type 0) : Bool → Type 0 where
   yes : A → Tells A true
@@ -61,6 +64,10 @@ four (yes x) (yes y) (no z) t = no (λ all. z (all .2))
 four (yes x) (no y) s t = no (λ all. y (all .1))
 four (no x) r s t = no (λ all. x (all .0))
 
+pub fails : {A : Type 0} {test : Bool} → Tells A test → ¬ A → Low test
+fails (yes x) n = absurd (n x)
+fails (no x) n = refl
+
 -- a flag that is HIGH, and one that is LOW, exactly where something holds
 pub high-where : {A : Type 0} {test : Bool} → Tells A test → High test ↔ A
 high-where (yes x) = (λ e. x, λ y. refl)
@@ -69,3 +76,11 @@ high-where (no x) = (λ e. absurd (true≢false (sym e)), λ y. absurd (x y))
 pub low-where : {A : Type 0} {test : Bool} → Tells A test → Low (not test) ↔ A
 low-where (yes x) = (λ e. x, λ y. refl)
 low-where (no x) = (λ e. absurd (true≢false e), λ y. absurd (x y))
+
+pub write-rise : (p : Pins) (s : State) → Tells (WriteRise p s) (writeRises p (s .write))
+unfolding writeRises
+write-rise p s = both (low (s .write .level)) (high (p .wclk))
+
+pub read-rise : (p : Pins) (s : State) → Tells (ReadRise p s) (readRises p (s .read))
+unfolding readRises
+read-rise p s = both (low (s .read .level)) (high (p .rclk))

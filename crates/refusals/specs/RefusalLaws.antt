@@ -3,7 +3,6 @@ use Prim.Native.Nat.{ℕ, suc, _-_, _<_}
 use mathlib.Core.Bool.{Bool, true, false, _&&_, and-eq-true-iff}
 use mathlib.Core.Logic.{inl, inr}
 use mathlib.Core.Path.{_≡_, refl, sym}
-use borrow.Author.Tests.{not-true}
 use native.Mathlib.Omega.{arith}
 use Rattle.counts.specs.declared.part.Part.{Part}
 use Rattle.counts.specs.Part.{depthOf}
@@ -15,7 +14,7 @@ use Rattle.sides.specs.SinceReset.{Tallies}
 use Rattle.sides.specs.Tracks.{Allowed}
 use Rattle.views.specs.TrueCounts.{TrueCounts}
 use Rattle.chip.specs.declared.state.State.{State}
-use Rattle.chip.specs.Tells.{high-where, none}
+use Rattle.chip.specs.Tells.{fails, high-where}
 use Rattle.refusals.specs.Refuse.{refusalOf, refusesTen}
 use Rattle.refusals.specs.RowLaws.{first-row, retransmit, row-ten}
 use Rattle.refusals.specs.Rows.{Given, mostWords}
@@ -44,7 +43,7 @@ allowed part p s t e outside k =
     let ten = passed (nine .1) in
     let back = high-where (retransmit p s) .0 in
     record {
-      seen = not-true _ (high-where (none (row-ten p s)) .1 (λ x. ten .0 (high, x)));
+      seen = fails (row-ten p s) (λ x. ten .0 (high, x));
       few = λ f. room-left part (s .read .mode) (t .written) (λ more. nine .0 (high, (back f .0, back f .1, inr more)));
       alone = λ f. not-low (p .wen) (λ low. eight .0 (high, (back f .0, back f .1, inr low)));
     }

@@ -13,15 +13,14 @@ use Rattle.offsets.specs.declared.registers.Method.the-variants.{Parallel, Seri
 use Rattle.pins.specs.declared.record.Pins.{Pins}
 use Rattle.sides.specs.declared.read.Mode.{Mode}
 use Rattle.sides.specs.declared.read.Mode.the-variants.{Standard, Fwft}
-use Rattle.sides.specs.Clocks.{readRises, writeRises}
 use Rattle.sides.specs.Read.{retransmits}
 use Rattle.sides.specs.SinceReset.{Tallies}
 use Rattle.views.specs.declared.retransmit.View.{View}
 use Rattle.views.specs.declared.retransmit.View.the-variants.{Unseen, Taken, Seen}
 use Rattle.views.specs.Retransmit.{isSeen}
 use Rattle.chip.specs.declared.state.State.{State}
-use Rattle.chip.specs.Levels.{Low, ReadRise, WriteRise}
-use Rattle.chip.specs.Tells.{Tells, yes, no, at-most, both, four, high, low, one, same, three}
+use Rattle.chip.specs.Levels.{Low, ReadRise}
+use Rattle.chip.specs.Tells.{Tells, yes, no, at-most, both, four, high, low, one, read-rise, same, three, write-rise}
 use Rattle.refusals.specs.NineLaws.{nine-exact}
 use Rattle.refusals.specs.Refuse.{asksUnselected, refusalOf, refusesEight, refusesFive, refusesNine, refusesSeven, refusesSix, refusesTen, retransmitMost, severalLow}
 use Rattle.refusals.specs.Rows.{FirstRow, Given, Row5, Row6, Row7, Row8, Row9, Row10, Unselected, lows, mostWords}
@@ -50,42 +49,34 @@ unseen Taken = yes (λ e. let z : _≡_ {A = ℕ} 0 1 = cc in omega arith)
 unseen Seen = no (λ n. n refl)
 
 module _ (p : Pins) (s : State) where
-  write-rise : Tells (WriteRise p s) (writeRises p (s .write))
-  unfolding writeRises
-  write-rise = both (low (s .write .level)) (high (p .wclk))
-
-  read-rise : Tells (ReadRise p s) (readRises p (s .read))
-  unfolding readRises
-  read-rise = both (low (s .read .level)) (high (p .rclk))
-
   pub retransmit : Tells (ReadRise p s × Low (p .rt)) (retransmits p (s .read))
   unfolding retransmits
-  retransmit = both read-rise (low (p .rt))
+  retransmit = both (read-rise p s) (low (p .rt))
 
   row-five : Tells (Row5 p s) (refusesFive p s)
   row-five = both (low (s .started)) (high (p .mrs))
 
   row-six : Tells (Row6 p s) (refusesSix p s)
   unfolding refusesSix
-  row-six = three (one write-rise read-rise) (low (p .ld)) (several (p .wen) (p .ren) (p .sen))
+  row-six = three (one (write-rise p s) (read-rise p s)) (low (p .ld)) (several (p .wen) (p .ren) (p .sen))
 
   row-seven : Tells (Row7 p s) (refusesSeven p s)
   unfolding refusesSeven
-  row-seven = three write-rise (low (p .ld)) (unselected (s .offsets .method) p)
+  row-seven = three (write-rise p s) (low (p .ld)) (unselected (s .offsets .method) p)
 
   row-eight : Tells (Row8 p s) (refusesEight p s)
   unfolding refusesEight retransmits
-  row-eight = three read-rise (low (p .rt)) (one (low (p .ren)) (low (p .wen)))
+  row-eight = three (read-rise p s) (low (p .rt)) (one (low (p .ren)) (low (p .wen)))
 
   row-nine : (accepted : ℕ) (part : Part) → Tallies accepted (s .write) → Tells (Row9 accepted part p s) (refusesNine (depthOf part) p s)
   unfolding retransmits
   row-nine accepted part t =
       rw (nine-exact accepted part p s t)
-      (three read-rise (low (p .rt)) (one (same accepted 0) (more-than-most part (s .read .mode) accepted)))
+      (three (read-rise p s) (low (p .rt)) (one (same accepted 0) (more-than-most part (s .read .mode) accepted)))
 
   pub row-ten : Tells (Row10 p s) (refusesTen p s)
   unfolding refusesTen
-  row-ten = four write-rise (high (p .ld)) (low (p .wen)) (unseen (s .write .view))
+  row-ten = four (write-rise p s) (high (p .ld)) (low (p .wen)) (unseen (s .write .view))
 
 -- one row, and the same of one that applies only outside reset
 given : {Row Further : Type 0} {test : Bool} {k : ℕ} (number otherwise : ℕ) → Tells Row test → k ≡ cond test number otherwise
