@@ -1,6 +1,7 @@
 -- What callers may know of an answer and a store without opening their definitions.
-use Prim.Native.Nat.{ℕ, _^_, _<_}
+use Prim.Native.Nat.{ℕ, _%_, _^_, _<_}
 use mathlib.Core.Bool.{Bool, true, false, cond, _&&_}
+use mathlib.Core.Logic.{_≢_}
 use mathlib.Core.Path.{_≡_, _∙_}
 use borrow.Author.Tests.{ltb-true}
 use native.Mathlib.Omega.{arith}
@@ -8,20 +9,22 @@ use Rattle.counts.specs.declared.part.Part.{Part}
 use Rattle.counts.specs.declared.part.Part.the-variants.{Idt72V255LA, Idt72V265LA}
 use Rattle.counts.specs.Laws.{place-below}
 use Rattle.counts.specs.Part.{depthOf, offsetBits, placeBits, within}
-use Rattle.counts.specs.Round.{placeOf}
+use Rattle.counts.specs.Round.{ahead, placeOf}
 use Rattle.offsets.specs.Reading.{shown, shownFits}
 use Rattle.offsets.specs.declared.reading.Shows.{Shows}
 use Rattle.offsets.specs.declared.reading.Shows.the-variants.{Register, Offset}
 use Rattle.pins.specs.declared.record.Pins.{Pins}
 use Rattle.pins.specs.Laws.{laid}
 use Rattle.pins.specs.Record.{bit, isWord, word}
-use Rattle.sides.specs.Write.{accepts}
+use Rattle.sides.specs.Write.{accepts, full}
 use Rattle.chip.specs.declared.advance.Store.{Store}
 use Rattle.chip.specs.declared.advance.Store.the-variants.{Keep, Put}
 use Rattle.chip.specs.declared.state.State.{State}
 use Rattle.chip.specs.Advance.{storeOf}
 use Rattle.chip.specs.Answer.{answerOf, linesOf}
+use Rattle.chip.specs.Levels.{High, Low, Outside, WriteRise}
 use Rattle.chip.specs.State.{widths}
+use Rattle.chip.specs.Tells.{Tells, both, fails, four, high, high-where, low, none, same, write-rise}
 use Rattle.chip.specs.Widths.{apart}
 
 -- a word goes to a place of the memory, with nothing above its 18 bits
@@ -36,6 +39,21 @@ placed-by part false count d = tt
 pub store-placed : (part : Part) (p : Pins) (s : State) → Placed part (storeOf part p s)
 unfolding storeOf
 store-placed part p s = placed-by part (p .mrs && p .prs && accepts (depthOf part) p (s .write)) (s .write .count .0) (p .d)
+
+-- outside reset, a WCLK rise with LD HIGH and WEN LOW, and not full before the sample
+abbrev pub Accepted : Part → Pins → State → Type 0
+Accepted part p s = Outside p × (WriteRise p s × High (p .ld) × Low (p .wen) × (ahead (s .write .count) (s .write .second) ≢ depthOf part))
+
+accepted : (part : Part) (p : Pins) (s : State) → Tells (Accepted part p s) (p .mrs && p .prs && accepts (depthOf part) p (s .write))
+unfolding accepts full
+accepted part p s = both (both (high (p .mrs)) (high (p .prs))) (four (write-rise p s) (high (p .ld)) (low (p .wen)) (none (same _ _)))
+
+-- D goes to memory at the write count modulo depth where it is accepted, and nothing does otherwise
+pub word-stored : (part : Part) (p : Pins) (s : State)
+    → (Accepted part p s → storeOf part p s ≡ Put (s .write .count .0 % depthOf part) (p .d % 2 ^ 18))
+    × (¬ Accepted part p s → storeOf part p s ≡ Keep)
+unfolding storeOf
+word-stored part p s = (λ asked. simp (high-where (accepted part p s) .1 asked), λ not-asked. simp (fails (accepted part p s) not-asked))
 
 pub answer-whole : (part : Part) (p : Pins) (s : State) → answerOf part p s < 2 ^ 24
 unfolding answerOf

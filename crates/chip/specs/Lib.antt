@@ -12,3 +12,6 @@ pub mod HalfLaws
 pub mod SinceReset
 pub mod Unique
 pub mod ThreeLaws
+pub mod Levels
+pub mod Tells
+pub mod FlagLaws

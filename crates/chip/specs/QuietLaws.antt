@@ -1,6 +1,6 @@
 -- A sample outside reset in which no clock rises: only the two levels change.
 use Prim.Native.Nat.{ℕ}
-use mathlib.Core.Bool.{Bool, true, false, not, cond, _&&_, _||_, and-eq-true-iff, and-false}
+use mathlib.Core.Bool.{Bool, true, false, not, _&&_, _||_, and-eq-true-iff, and-false}
 use mathlib.Core.Path.{_≡_, refl}
 use borrow.Author.Tests.{not-true}
 use Rattle.counts.specs.declared.part.Part.{Part}

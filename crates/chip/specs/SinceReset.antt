@@ -40,5 +40,5 @@ unfolding stateAfter running masterReset partialReset
 tally-stays accepted part p fetched s t =
     tallies-by (cond (accepts (depthOf part) p (s .write)) (accepted + 1) accepted) (p .mrs) (p .prs)
     (running part p fetched s) (partialReset p s) (masterReset p)
-    (tallies-after accepted (depthOf part) (s .offsets .m) p (s .read) (s .write) t)
+    (tallies-after accepted (depthOf part) _ p (s .read) (s .write) t)
     (cleared-tallies _ _ _ _ _ _) (cleared-tallies _ _ _ _ _ _)

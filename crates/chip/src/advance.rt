@@ -56,10 +56,10 @@ fn run(part: Part, p: Pins, fetched: u32, s: State) -> State
     let before = s.offsets;
     let write_rises = sides::clocks::write_rises(p, s.write);
     let read_rises = sides::clocks::read_rises(p, s.read);
-    let write = sides::write::write_after(part, before.m, p, s.read, s.write);
-    let read = sides::read::read_after(before.n, p, fetched, s.write, s.read);
     let offsets = offsets::loading::load(part, p, write_rises, before);
     let reading = offsets::reading::read_offset(p, read_rises, before, s.reading);
+    let write = sides::write::write_after(part, before.m, p, s.read, s.write);
+    let read = sides::read::read_after(before.n, p, fetched, s.write, s.read);
     State {
         started: s.started,
         write: write,

@@ -1,8 +1,9 @@
 -- What is turned away, 9: judged by the true number of words accepted since reset, however large.
-use Prim.Native.Nat.{ℕ, _<_}
-use mathlib.Core.Bool.{_&&_, _||_}
-use mathlib.Core.Path.{_≡_}
-use lib.Dec.{eqb, ltb}
+use Prim.Native.Nat.{ℕ, _+_, _%_, _<_}
+use mathlib.Core.Bool.{Bool, true, false, cond, _&&_, _||_}
+use mathlib.Core.Path.{_≡_, sym}
+use lib.Dec.{eqb, leb, ltb}
+use borrow.Author.Tests.{le-leb, lt-leb}
 use native.Mathlib.Omega.{arith}
 use Rattle.counts.specs.declared.part.Part.{Part}
 use Rattle.counts.specs.Part.{depthOf}
@@ -11,6 +12,7 @@ use Rattle.counts.specs.Sized.{Sized, part-sized}
 use Rattle.pins.specs.declared.record.Pins.{Pins}
 use Rattle.sides.specs.declared.read.Mode.{Mode}
 use Rattle.sides.specs.declared.read.Mode.the-variants.{Standard, Fwft}
+use Rattle.sides.specs.declared.write.WriteSide.{WriteSide}
 use Rattle.sides.specs.Read.{retransmits}
 use Rattle.sides.specs.SinceReset.{Tallies, more-exact, none-exact}
 use Rattle.chip.specs.declared.state.State.{State}
@@ -30,3 +32,12 @@ nine-exact accepted part p s t =
       more-exact (retransmitMost (depthOf part) (s .read .mode)) accepted (s .write)
           (most-below (depthOf part) (s .read .mode) (part-sized part)) t,
     )
+
+-- a state hands in such a number, whether or not it was reached
+tallied-by : (wrapped : Bool) (count : ℕ) → count < width
+    → (count ≡ cond wrapped (width + count) count % width) × (wrapped ≡ leb width (cond wrapped (width + count) count))
+tallied-by true count h = (omega arith, sym (le-leb width (width + count) (omega arith)))
+tallied-by false count h = (omega arith, sym (lt-leb width count h))
+
+pub tallied : (w : WriteSide) → w .count .0 < width → Tallies (cond (w .wrapped) (width + w .count .0) (w .count .0)) w
+tallied w h = let both = tallied-by (w .wrapped) (w .count .0) h in record { count = both .0; wrapped = both .1 }

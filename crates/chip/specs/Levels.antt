@@ -1,0 +1,24 @@
+-- Trace sample: pins are levels, and a clock rises between the level last accepted and the present one.
+use mathlib.Core.Bool.{Bool, true, false}
+use mathlib.Core.Path.{_≡_}
+use Rattle.pins.specs.declared.record.Pins.{Pins}
+use Rattle.chip.specs.declared.state.State.{State}
+
+abbrev pub High : Bool → Type 0
+High level = level ≡ true
+
+abbrev pub Low : Bool → Type 0
+Low level = level ≡ false
+
+abbrev pub Rise : Bool → Bool → Type 0
+Rise last now = Low last × High now
+
+abbrev pub WriteRise : Pins → State → Type 0
+WriteRise p s = Rise (s .write .level) (p .wclk)
+
+abbrev pub ReadRise : Pins → State → Type 0
+ReadRise p s = Rise (s .read .level) (p .rclk)
+
+-- no reset in this sample
+abbrev pub Outside : Pins → Type 0
+Outside p = High (p .mrs) × High (p .prs)
