@@ -10,6 +10,7 @@ use std::time::Instant;
 
 use reference::compare::{self, Counterexample};
 use reference::corners::Corners;
+use reference::handed::Trial;
 use reference::hostile::{Hostile, Tally};
 use reference::library::Library;
 use reference::plans::Amount;
@@ -23,7 +24,7 @@ struct Settings {
     driver: Launch,
 }
 
-/// What one of the two comparisons came to.
+/// What one of the comparisons came to.
 #[derive(Default)]
 struct Finding {
     corners: Corners,
@@ -61,6 +62,16 @@ fn try_hostile(library: &mut Library, calls: u64, seed: u64, corners: &mut Corne
     (hostile.tally, wrong)
 }
 
+/// Calls on states that were never reached, by the number that came of them.
+fn try_handed(settings: &Settings, seed: u64) -> (Finding, [u64; 11]) {
+    let mut library = Library::new(settings.driver.clone());
+    let mut trial = Trial::new(&mut library, seed).expect("the driver answers");
+    let ended = |_| Some("the library's process ended".to_string());
+    let wrong = trial.run(2_000 * settings.amount as u64).unwrap_or_else(ended);
+    let wrong = wrong.map(|words| Counterexample { input: Vec::new(), words: format!("state never reached: {words}") });
+    (Finding { corners: trial.corners, wrong }, trial.numbers)
+}
+
 fn try_program(settings: &Settings, seed: u64) -> Finding {
     let mut finding = Finding::default();
     let amount = Amount { wide: 1, long: settings.amount, short: 14 * settings.amount };
@@ -68,10 +79,11 @@ fn try_program(settings: &Settings, seed: u64) -> Finding {
     finding
 }
 
-fn report(corners: &Corners, tally: &Tally, wrong: &[Counterexample], seconds: u64) -> bool {
+fn report(corners: &Corners, tally: &Tally, handed: &[u64; 11], wrong: &[Counterexample], seconds: u64) -> bool {
     corners.print();
     println!("hostile calls by number: {:?}", tally.numbers);
-    println!("damaged states: {} spelled a state, {} none", tally.spelled, tally.unspelled);
+    println!("damaged states: {} pass 3, {} do not", tally.spelled, tally.unspelled);
+    println!("calls on states never reached, by number: {handed:?}");
     for counterexample in wrong {
         println!("DIFFERENCE {}", counterexample.words);
     }
@@ -83,7 +95,8 @@ fn report(corners: &Corners, tally: &Tally, wrong: &[Counterexample], seconds: u
     );
     // Damage that never spells a state, or always does, tries nothing; and each number is to be met.
     let damage_tried = tally.spelled > 0 && tally.unspelled > 0 && tally.numbers.iter().all(|&calls| calls > 0);
-    wrong.is_empty() && unreached == 0 && damage_tried
+    let handed_tried = handed[0] > 0 && handed[3..].iter().all(|&calls| calls > 0);
+    wrong.is_empty() && unreached == 0 && damage_tried && handed_tried
 }
 
 fn main() -> ExitCode {
@@ -93,20 +106,23 @@ fn main() -> ExitCode {
     };
     let start = Instant::now();
     let mut random = Random::new(settings.seed);
-    let (library_seed, program_seed) = (random.draw(), random.draw());
-    let ((by_library, tally), by_program) = thread::scope(|scope| {
+    let [library_seed, program_seed, handed_seed] = [random.draw(), random.draw(), random.draw()];
+    let ((by_library, tally), by_program, (by_handed, handed)) = thread::scope(|scope| {
         let library = scope.spawn(|| try_library(&settings, library_seed));
         let program = try_program(&settings, program_seed);
-        (library.join().expect("the comparison with the library ends"), program)
+        let handed = try_handed(&settings, handed_seed);
+        (library.join().expect("the comparison with the library ends"), program, handed)
     });
-    let mut corners = by_library.corners;
-    corners.add(&by_program.corners);
-    let wrong: Vec<Counterexample> = by_library.wrong.into_iter().chain(by_program.wrong).collect();
+    let (mut corners, mut wrong) = (Corners::default(), Vec::new());
+    for finding in [by_library, by_program, by_handed] {
+        corners.add(&finding.corners);
+        wrong.extend(finding.wrong);
+    }
     if let Some(counterexample) = wrong.iter().find(|counterexample| !counterexample.input.is_empty()) {
         let file = Path::new(&settings.driver.program).with_file_name("counterexample.trace");
         fs::write(file, &counterexample.input).expect("the counterexample can be left");
     }
-    match report(&corners, &tally, &wrong, start.elapsed().as_secs()) {
+    match report(&corners, &tally, &handed, &wrong, start.elapsed().as_secs()) {
         true => ExitCode::SUCCESS,
         false => ExitCode::FAILURE,
     }

@@ -4,13 +4,14 @@ use std::io::Result;
 
 use super::Hostile;
 use crate::generator::Generator;
+use crate::handed::STATE_BYTES;
 use crate::library::{Call, Reply};
-use crate::model::Model;
+use crate::model::{Model, Outcome};
 use crate::part::PARTS;
 
 impl Hostile<'_> {
     pub(super) fn lengths_of_power_up(&mut self) -> Result<()> {
-        let length = self.wrong_length(self.state_bytes);
+        let length = self.wrong_length(STATE_BYTES as u64);
         let told = self.library.power_up_of(length)?;
         self.judge((2, 0) == told, || format!("power-up of {length} bytes gave {told:?}"));
         Ok(())
@@ -33,22 +34,14 @@ impl Hostile<'_> {
         model: &mut Model,
         memory: &mut [u32],
     ) -> Result<()> {
-        let (mut calls, mut numbers) = (Vec::new(), Vec::new());
+        let mut calls = Vec::new();
         for _ in 0..self.random.below(300) {
-            let mut call = self.right_call(model.part, generator.next(model));
+            let mut call = Call::right(model.part, generator.next(model));
             let spoiled = self.random.flip().then(|| self.spoil(&mut call));
-            calls.push(call);
-            numbers.push(match spoiled {
-                Some(number) => Reply { number, answer: 0, moved: 0 },
-                None => Reply::told(model.sample(call.record, memory)),
-            });
+            let outcome = spoiled.map_or_else(|| model.sample(call.record, memory), Outcome::Refused);
+            calls.push((call, Reply::told(outcome)));
         }
-        let replies = self.library.watched(&calls)?;
-        for ((call, expected), reply) in calls.iter().zip(&numbers).zip(&replies) {
-            self.count(reply);
-            self.judge(expected == reply, || format!("{call:X?}: expected {expected:X?}, got {reply:X?}"));
-        }
-        Ok(())
+        self.expect(&calls, "between right calls")
     }
 
     /// Makes one or more things wrong, and gives the number that comes of it: the first in the order of the table.
@@ -58,7 +51,7 @@ impl Hostile<'_> {
         if wrongs & 1 != 0 {
             call.record_length = self.wrong_length(4);
         }
-        for (bit, right) in [(2, self.state_bytes), (4, call.memory_length), (8, 3)] {
+        for (bit, right) in [(2, call.state_length), (4, call.memory_length), (8, 3)] {
             if wrongs & bit != 0 {
                 let wrong = self.wrong_length(right);
                 match bit {
