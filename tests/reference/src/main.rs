@@ -105,6 +105,9 @@ fn main() -> ExitCode {
         return ExitCode::FAILURE;
     };
     let start = Instant::now();
+    let left = Path::new(&settings.driver.program).with_file_name("counterexample.trace");
+    // One from an earlier run would be taken for this run's.
+    fs::remove_file(&left).ok();
     let mut random = Random::new(settings.seed);
     let [library_seed, program_seed, handed_seed] = [random.draw(), random.draw(), random.draw()];
     let ((by_library, tally), by_program, (by_handed, handed)) = thread::scope(|scope| {
@@ -119,8 +122,8 @@ fn main() -> ExitCode {
         wrong.extend(finding.wrong);
     }
     if let Some(counterexample) = wrong.iter().find(|counterexample| !counterexample.input.is_empty()) {
-        let file = Path::new(&settings.driver.program).with_file_name("counterexample.trace");
-        fs::write(file, &counterexample.input).expect("the counterexample can be left");
+        fs::write(&left, &counterexample.input).expect("the counterexample can be left");
+        println!("the counterexample, as an input of the trace program: {}", left.display());
     }
     match report(&corners, &tally, &handed, &wrong, start.elapsed().as_secs()) {
         true => ExitCode::SUCCESS,
