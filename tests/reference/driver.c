@@ -1,11 +1,12 @@
 /* Calls the static library for a comparison that runs in another process. Commands come on standard input, replies go to
-   standard output; numbers are little-endian, as the processor has them. Every buffer lies against a forbidden page. */
+   standard output. Every buffer lies against a forbidden page. */
 #include <stdio.h>
 #include <stdlib.h>
 #include <string.h>
 
 #include "fifo.h"
 #include "guarded.h"
+#include "talk.h"
 
 enum { RECORD = 4, ANSWER = 3, WORD = 4, FILLED = 0xA5 };
 enum { STATE_MOVED = 1, MEMORY_MOVED = 2, ANSWER_MOVED = 4, RECORD_MOVED = 8, NOT_REPEATED = 16 };
@@ -30,30 +31,6 @@ static uint32_t written_word = NO_WORD;
 static const uint8_t filled[ANSWER] = {FILLED, FILLED, FILLED};
 /* Whether the memories may have changed since their copies were taken. */
 static int memory_copies_old = 1;
-
-static void stop(const char *why)
-{
-    fprintf(stderr, "driver: %s\n", why);
-    exit(2);
-}
-
-static void receive(void *to, size_t bytes)
-{
-    if (fread(to, 1, bytes, stdin) != bytes)
-        stop("a command ends early");
-}
-
-static uint32_t receive_number(void)
-{
-    uint32_t number;
-    receive(&number, sizeof number);
-    return number;
-}
-
-static void reply(const void *from, size_t bytes)
-{
-    fwrite(from, 1, bytes, stdout);
-}
 
 /* Each part's memory has a buffer of just its length; one of another length goes into the smallest that it fits. */
 static struct guarded *memory_for(uint64_t length)
@@ -216,14 +193,6 @@ static void watched_power_up(void)
     uint8_t faults = guarded_moved(&states) ? STATE_MOVED : 0;
     reply(&code, sizeof code);
     reply(&faults, 1);
-}
-
-/* The xorshift sequence of a seed. */
-static uint32_t next_word(uint32_t word)
-{
-    word ^= word << 13;
-    word ^= word >> 17;
-    return word ^ word << 5;
 }
 
 static void refill(void)

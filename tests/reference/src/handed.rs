@@ -3,7 +3,7 @@
 
 mod fields;
 mod rules;
-mod states;
+pub mod states;
 
 use std::io::Result;
 

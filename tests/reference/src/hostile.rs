@@ -4,6 +4,8 @@ mod damaged;
 mod handed_over;
 mod wrong_calls;
 
+pub use wrong_calls::wrong_part;
+
 use std::io::Result;
 
 use crate::corners::Corners;

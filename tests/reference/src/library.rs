@@ -71,7 +71,7 @@ impl Reply {
     }
 }
 
-fn start(launch: &Launch) -> (Child, BufWriter<ChildStdin>, BufReader<ChildStdout>) {
+pub fn start(launch: &Launch) -> (Child, BufWriter<ChildStdin>, BufReader<ChildStdout>) {
     let mut child = launch.command().spawn().expect("the driver starts");
     let to = BufWriter::new(child.stdin.take().expect("its input is a pipe"));
     let from = BufReader::new(child.stdout.take().expect("its output is a pipe"));

@@ -80,10 +80,16 @@ impl Handed {
     }
 
     pub fn sample(&mut self, record: u32, memory: &mut [u32]) -> Outcome {
-        let pins = Pins::of(record);
-        if !self.passes() {
-            return Outcome::Refused(3);
+        if self.passes() {
+            self.step(record, memory)
+        } else {
+            Outcome::Refused(3)
         }
+    }
+
+    /// A record of a run, which tests 3 at its start and never again.
+    pub fn step(&mut self, record: u32, memory: &mut [u32]) -> Outcome {
+        let pins = Pins::of(record);
         if let Some(number) = refusal(self, pins) {
             return Outcome::Refused(number);
         }

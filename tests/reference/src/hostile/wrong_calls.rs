@@ -8,6 +8,7 @@ use crate::handed::STATE_BYTES;
 use crate::library::{Call, Reply};
 use crate::model::{Model, Outcome};
 use crate::part::PARTS;
+use crate::random::Random;
 
 impl Hostile<'_> {
     pub(super) fn lengths_of_power_up(&mut self) -> Result<()> {
@@ -18,7 +19,7 @@ impl Hostile<'_> {
     }
 
     pub(super) fn part_numbers(&mut self) -> Result<()> {
-        let part = self.wrong_part();
+        let part = wrong_part(&mut self.random);
         let bytes = self.library.memory_bytes(part)?;
         self.judge(bytes == 0, || format!("memory of part {part} is said to have {bytes} bytes"));
         for part in PARTS {
@@ -63,7 +64,7 @@ impl Hostile<'_> {
             }
         }
         if wrongs & 16 != 0 {
-            call.part = self.wrong_part();
+            call.part = wrong_part(&mut self.random);
             number = 1;
         }
         number
@@ -83,11 +84,12 @@ impl Hostile<'_> {
             length
         }
     }
+}
 
-    fn wrong_part(&mut self) -> u32 {
-        let right = u32::from(self.random.pick(&PARTS).number);
-        let high = right | 1 << (9 + self.random.below(23));
-        let thrown = self.random.bits() | 1 << 10;
-        self.random.pick(&[0, 1, 254, 256, 264, 266, right.swap_bytes(), high, thrown])
-    }
+/// Near a part's number, and right but for bits that a narrower number would not hold.
+pub fn wrong_part(random: &mut Random) -> u32 {
+    let right = u32::from(random.pick(&PARTS).number);
+    let high = right | 1 << (9 + random.below(23));
+    let thrown = random.bits() | 1 << 10;
+    random.pick(&[0, 1, 254, 256, 264, 266, right.swap_bytes(), high, thrown])
 }
