@@ -150,11 +150,12 @@ fn main() -> ExitCode {
         corners.add(&finding.corners);
         wrong.extend(finding.wrong);
     }
+    let passed = report(&corners, &tried, &wrong, start.elapsed().as_secs());
     if let Some(counterexample) = wrong.iter().find(|counterexample| !counterexample.input.is_empty()) {
         fs::write(&left, &counterexample.input).expect("the counterexample can be left");
         println!("the counterexample, as an input of the trace program: {}", left.display());
     }
-    match report(&corners, &tried, &wrong, start.elapsed().as_secs()) {
+    match passed {
         true => ExitCode::SUCCESS,
         false => ExitCode::FAILURE,
     }
