@@ -9,6 +9,7 @@ use crate::trace::refill;
 
 /// What a room holds that was not written to.
 const FILLED: u8 = 0xA5;
+const UNTOUCHED: u64 = u64::from_le_bytes([FILLED; 8]);
 
 pub struct Run {
     pub lenient: bool,
@@ -71,35 +72,38 @@ impl Run {
         self.trace.len() / 4
     }
 
+    /// A run begins only where the bytes spell a state.
     pub fn expected(&self) -> Told {
         let mut memory = vec![0; self.words];
         refill(&mut memory, self.seed);
         let untouched = |room: usize| vec![FILLED; room];
         let mut told = Told {
-            number: 0,
+            number: 3,
             moved: 0,
-            index: 0,
-            accepted: 0,
+            index: UNTOUCHED,
+            accepted: UNTOUCHED,
             state: self.state.to_vec(),
             memory,
             answers: untouched(self.answers),
             marks: untouched(self.marks),
         };
-        match self.judged_at_start() {
-            Ok(handed) => self.work(handed, &mut told),
-            Err(number) => told.number = number,
+        if let Some(fields) = Fields::spelled(&self.state) {
+            (told.index, told.accepted) = (0, 0);
+            match self.judged_at_start(fields) {
+                Ok(handed) => self.work(handed, &mut told),
+                Err(number) => told.number = number,
+            }
         }
         told
     }
 
-    fn judged_at_start(&self) -> Result<Handed, u32> {
+    fn judged_at_start(&self, fields: Fields) -> Result<Handed, u32> {
         let part = PARTS.into_iter().find(|part| u32::from(part.number) == self.part).ok_or(1u32)?;
         let whole = self.whole_records();
         if self.words as u64 != part.depth || self.answers < 3 * whole || self.lenient && self.marks < whole {
             return Err(2);
         }
-        let fields = Fields::spelled(&self.state);
-        fields.map(|fields| Handed { part, fields }).filter(Handed::passes).ok_or(3)
+        Some(Handed { part, fields }).filter(Handed::passes).ok_or(3)
     }
 
     fn work(&self, mut handed: Handed, told: &mut Told) {
