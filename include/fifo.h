@@ -51,8 +51,14 @@ uint32_t fifo_power_up(uint8_t *state, size_t state_len);
  *
  *    1   part is neither 255 nor 265
  *    2   state_len, memory_len or answer_len is wrong
- *    3   the state's bytes spell no state; or an offset, the output register or the serial bits are wider than they can be,
- *        or a count or a stage lies further behind the write count than it can. Never so for bytes that these functions made
+ *    3   the state's bytes spell no state; or they spell one in which
+ *        - an offset, or the offset shown where one is, is wider than the part's 13 or 14 bits, or the output register
+ *          wider than 18;
+ *        - the serial bits so far are wider than their count, or that count is not below the part's 26 or 28;
+ *        - counted round 16 bits, the read count or a stage of either side lies more than the depth behind the write
+ *          count, or the read side's second stage lies behind the read count.
+ *        Never so for a state that fifo_power_up made and that fifo_sample alone has changed since, with one part number
+ *        all the time
  *    4   record_len is not 4, or bit 18 is set
  *    5   MRS HIGH, and no Master Reset so far
  *    6   a clock rises with LD LOW and more than one of WEN, REN and SEN LOW

@@ -1,13 +1,14 @@
 /* Calls the static library for a comparison that runs in another process. Commands come on standard input, replies go to
-   standard output; numbers are little-endian, as the processor has them. Every buffer lies against a forbidden page. */
+   standard output. Every buffer lies against a forbidden page. */
 #include <stdio.h>
 #include <stdlib.h>
 #include <string.h>
 
 #include "fifo.h"
 #include "guarded.h"
+#include "talk.h"
 
-enum { RECORD = 4, ANSWER = 3, FILLED = 0xA5 };
+enum { RECORD = 4, ANSWER = 3, WORD = 4, FILLED = 0xA5 };
 enum { STATE_MOVED = 1, MEMORY_MOVED = 2, ANSWER_MOVED = 4, RECORD_MOVED = 8, NOT_REPEATED = 16 };
 
 /* What one call is given besides the state and the memory, as it comes in the command. */
@@ -22,33 +23,14 @@ static int against_front;
 static uint32_t part, state_bytes;
 static uint8_t *saved_state, *last_state;
 
+/* The word of the memory that the last watched call has changed, and its number. */
+#define NO_WORD UINT32_MAX
+static const uint8_t no_word[WORD], *written = no_word;
+static uint32_t written_word = NO_WORD;
+
 static const uint8_t filled[ANSWER] = {FILLED, FILLED, FILLED};
 /* Whether the memories may have changed since their copies were taken. */
 static int memory_copies_old = 1;
-
-static void stop(const char *why)
-{
-    fprintf(stderr, "driver: %s\n", why);
-    exit(2);
-}
-
-static void receive(void *to, size_t bytes)
-{
-    if (fread(to, 1, bytes, stdin) != bytes)
-        stop("a command ends early");
-}
-
-static uint32_t receive_number(void)
-{
-    uint32_t number;
-    receive(&number, sizeof number);
-    return number;
-}
-
-static void reply(const void *from, size_t bytes)
-{
-    fwrite(from, 1, bytes, stdout);
-}
 
 /* Each part's memory has a buffer of just its length; one of another length goes into the smallest that it fits. */
 static struct guarded *memory_for(uint64_t length)
@@ -112,16 +94,28 @@ static void exchange(struct guarded *buffer, const uint8_t *from, size_t bytes)
     }
 }
 
+/* Where the first word lies that has moved; the room where none has. */
+static size_t first_moved_word(const struct guarded *memory)
+{
+    size_t place = guarded_first_moved(memory);
+    if (place < memory->room && memcmp(memory->start + place, memory->copy + place, WORD) == 0)
+        place += WORD;
+    return place;
+}
+
 /* A taken call may have changed the state, the answer and one word of the memory. These and their copies change places, so
    that all is as before the call and the copies are as after it, unless more has changed. */
 static void go_back(const struct call *call)
 {
     struct guarded *memory = memory_for(call->memory_length);
-    size_t word = guarded_first_moved(memory);
+    size_t place = first_moved_word(memory);
     exchange(&states, state_now(), state_bytes);
     exchange(&rooms, guarded_at(&rooms, ANSWER, against_front), ANSWER);
-    if (word < memory->room)
-        exchange(memory, memory->start + word, GUARDED_STEP);
+    if (place < memory->room) {
+        exchange(memory, memory->start + place, WORD);
+        written = memory->start + place;
+        written_word = (uint32_t)(place / WORD);
+    }
 }
 
 /* One call made twice from the same bytes, everything around it looked at. */
@@ -130,6 +124,8 @@ static void watched_call(void)
     struct call call;
     receive(&call, sizeof call);
     keep_all();
+    written = no_word;
+    written_word = NO_WORD;
     uint32_t code = sample(&call);
     uint8_t faults = 0, answer[ANSWER] = {0};
     if (code == 0)
@@ -144,6 +140,13 @@ static void watched_call(void)
     reply(&code, sizeof code);
     reply(&faults, 1);
     reply(answer, ANSWER);
+}
+
+static void aftermath(void)
+{
+    reply(state_now(), state_bytes);
+    reply(&written_word, sizeof written_word);
+    reply(written, WORD);
 }
 
 /* Samples in a row, each given with a mark: whether the memory is to be compared too, which the caller asks for where it
@@ -192,14 +195,6 @@ static void watched_power_up(void)
     reply(&faults, 1);
 }
 
-/* The xorshift sequence of a seed. */
-static uint32_t next_word(uint32_t word)
-{
-    word ^= word << 13;
-    word ^= word >> 17;
-    return word ^ word << 5;
-}
-
 static void refill(void)
 {
     uint32_t word = receive_number() | 1;
@@ -244,6 +239,9 @@ static void obey(int command)
     case 'U': watched_power_up(); break;
     case 'S': memcpy(saved_state, state_now(), state_bytes); break;
     case 'B': memcpy(state_now(), saved_state, state_bytes); break;
+    case 'T': receive(state_now(), state_bytes); break;
+    case 'G': reply(state_now(), state_bytes); break;
+    case 'A': aftermath(); break;
     case 'D': damage_byte(); break;
     case 'X': random_state(); break;
     case 'N': memory_bytes_of(); break;

@@ -21,6 +21,13 @@ pub struct Counterexample {
     pub words: String,
 }
 
+impl Counterexample {
+    /// One that is no input of the trace program.
+    pub fn told(kind: &str, words: String) -> Counterexample {
+        Counterexample { input: Vec::new(), words: format!("{kind}: {words}") }
+    }
+}
+
 pub fn library(library: &mut Library, amount: Amount, seed: u64, corners: &mut Corners) -> Option<Counterexample> {
     let mut random = Random::new(seed);
     for job in jobs(amount, &mut random) {

@@ -4,10 +4,13 @@ mod damaged;
 mod handed_over;
 mod wrong_calls;
 
+pub use wrong_calls::wrong_part;
+
 use std::io::Result;
 
 use crate::corners::Corners;
 use crate::generator::{Generator, Plan};
+use crate::handed::STATE_BYTES;
 use crate::library::{Call, Library, Reply};
 use crate::model::{Mode, Model};
 use crate::part::{Part, PARTS};
@@ -20,7 +23,7 @@ use crate::trace::refill;
 pub struct Tally {
     pub calls: u64,
     pub numbers: [u64; 11],
-    /// Damaged states that were taken for a state, and those that were not.
+    /// Damaged states that pass 3, and those that do not.
     pub spelled: u64,
     pub unspelled: u64,
 }
@@ -28,7 +31,6 @@ pub struct Tally {
 pub struct Hostile<'a> {
     library: &'a mut Library,
     random: Random,
-    state_bytes: u64,
     pub tally: Tally,
     pub corners: Corners,
     /// The first wrong reply, in words.
@@ -37,15 +39,9 @@ pub struct Hostile<'a> {
 
 impl<'a> Hostile<'a> {
     pub fn new(library: &'a mut Library, seed: u64) -> Result<Hostile<'a>> {
-        let state_bytes = u64::from(library.state_bytes()?);
-        Ok(Hostile {
-            library,
-            random: Random::new(seed),
-            state_bytes,
-            tally: Tally::default(),
-            corners: Corners::default(),
-            wrong: None,
-        })
+        let bytes = library.state_bytes()?;
+        let wrong = (bytes as usize != STATE_BYTES).then(|| format!("a state is said to have {bytes} bytes"));
+        Ok(Hostile { library, random: Random::new(seed), tally: Tally::default(), corners: Corners::default(), wrong })
     }
 
     /// At least so many calls.
@@ -86,7 +82,7 @@ impl<'a> Hostile<'a> {
             self.hand_over(&model, other, generator.next(&model), &mut other_memory)?;
         }
         for _ in 0..24 {
-            self.damaged_state(&mut generator, &model)?;
+            self.damaged_state(&mut generator, &model, &mut memory)?;
             self.library.restore_state()?;
         }
         Ok(())
@@ -102,21 +98,21 @@ impl<'a> Hostile<'a> {
         Ok(memory)
     }
 
+    /// Makes the calls and holds the replies to what is expected.
+    fn expect(&mut self, calls: &[(Call, Reply)], words: &str) -> Result<()> {
+        let made: Vec<Call> = calls.iter().map(|&(call, _)| call).collect();
+        let replies = self.library.watched(&made)?;
+        for ((call, expected), reply) in calls.iter().zip(&replies) {
+            self.count(reply);
+            self.judge(expected == reply, || format!("{words}, {call:X?}: expected {expected:X?}, got {reply:X?}"));
+        }
+        Ok(())
+    }
+
     fn count(&mut self, reply: &Reply) {
         self.tally.calls += 1;
         if let Some(count) = self.tally.numbers.get_mut(reply.number as usize) {
             *count += 1;
-        }
-    }
-
-    fn right_call(&self, part: Part, record: u32) -> Call {
-        Call {
-            part: u32::from(part.number),
-            record,
-            record_length: 4,
-            state_length: self.state_bytes,
-            memory_length: 4 * part.depth,
-            answer_length: 3,
         }
     }
 }

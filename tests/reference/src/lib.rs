@@ -3,11 +3,13 @@
 //!
 //! The model: `part`, `pins`, `history`, `offsets`, `refusals`, `model`. What it is tried on: `random`, `scenes`,
 //! `steering`, `generator`, `plans`, `trace`; and what of that has been come through: `corners`, `watch`. The others that
-//! it is compared with: `program`, `library`, `hostile`, `compare`, `shrink`.
+//! it is compared with: `program`, `library`, `hostile`, `compare`, `shrink`. And `handed`, for states that no history
+//! leads to: a small model on the state's own fields, which `runs` is held to.
 
 pub mod compare;
 pub mod corners;
 pub mod generator;
+pub mod handed;
 pub mod history;
 pub mod hostile;
 pub mod library;
@@ -19,6 +21,7 @@ pub mod plans;
 pub mod program;
 pub mod random;
 pub mod refusals;
+pub mod runs;
 pub mod scenes;
 pub mod shrink;
 pub mod steering;

@@ -7,6 +7,7 @@ pub use comparison::Difference;
 use std::io::{BufReader, BufWriter, Read, Result, Write};
 use std::process::{Child, ChildStdin, ChildStdout};
 
+use crate::handed::STATE_BYTES;
 use crate::model::Outcome;
 use crate::part::Part;
 use crate::program::Launch;
@@ -37,6 +38,30 @@ pub struct Call {
     pub answer_length: u64,
 }
 
+impl Call {
+    /// With every length as it should be.
+    pub fn right(part: Part, record: u32) -> Call {
+        Call {
+            part: u32::from(part.number),
+            record,
+            record_length: 4,
+            state_length: STATE_BYTES as u64,
+            memory_length: 4 * part.depth,
+            answer_length: 3,
+        }
+    }
+}
+
+/// What the driver says where no word has changed.
+const NO_WORD: usize = u32::MAX as usize;
+
+/// What a watched call has left: the state's bytes, and the word of the memory that it has changed.
+#[derive(Clone, Copy, PartialEq, Eq, Debug)]
+pub struct Aftermath {
+    pub state: [u8; STATE_BYTES],
+    pub written: Option<(usize, u32)>,
+}
+
 impl Reply {
     pub fn told(outcome: Outcome) -> Reply {
         match outcome {
@@ -46,7 +71,7 @@ impl Reply {
     }
 }
 
-fn start(launch: &Launch) -> (Child, BufWriter<ChildStdin>, BufReader<ChildStdout>) {
+pub fn start(launch: &Launch) -> (Child, BufWriter<ChildStdin>, BufReader<ChildStdout>) {
     let mut child = launch.command().spawn().expect("the driver starts");
     let to = BufWriter::new(child.stdin.take().expect("its input is a pipe"));
     let from = BufReader::new(child.stdout.take().expect("its output is a pipe"));
@@ -143,18 +168,45 @@ impl Library {
         })
     }
 
+    fn watch(&mut self, call: &Call) -> Result<()> {
+        self.command(b'W', &[call.part])?;
+        self.to.write_all(&call.record.to_be_bytes())?;
+        self.to.write_all(&(!call.record).to_be_bytes())?;
+        let lengths = [call.record_length, call.state_length, call.memory_length, call.answer_length];
+        lengths.iter().try_for_each(|length| self.to.write_all(&length.to_le_bytes()))
+    }
+
     /// Several calls, each made twice and watched on all sides.
     pub fn watched(&mut self, calls: &[Call]) -> Result<Vec<Reply>> {
-        for call in calls {
-            self.command(b'W', &[call.part])?;
-            self.to.write_all(&call.record.to_be_bytes())?;
-            self.to.write_all(&(!call.record).to_be_bytes())?;
-            for length in [call.record_length, call.state_length, call.memory_length, call.answer_length] {
-                self.to.write_all(&length.to_le_bytes())?;
-            }
-        }
+        calls.iter().try_for_each(|call| self.watch(call))?;
         self.end_piece()?;
         calls.iter().map(|_| self.reply_watched()).collect()
+    }
+
+    /// The same on a state of the caller's making, with what each call has left.
+    pub fn handed_in(&mut self, state: &[u8; STATE_BYTES], calls: &[Call]) -> Result<Vec<(Reply, Aftermath)>> {
+        self.command(b'T', &[])?;
+        self.to.write_all(state)?;
+        for call in calls {
+            self.watch(call)?;
+            self.command(b'A', &[])?;
+        }
+        self.end_piece()?;
+        calls.iter().map(|_| Ok((self.reply_watched()?, self.aftermath()?))).collect()
+    }
+
+    fn aftermath(&mut self) -> Result<Aftermath> {
+        let state = self.receive()?;
+        let place = u32::from_le_bytes(self.receive()?) as usize;
+        let word = u32::from_be_bytes(self.receive()?);
+        Ok(Aftermath { state, written: (place != NO_WORD).then_some((place, word)) })
+    }
+
+    /// The state's bytes as they are.
+    pub fn state(&mut self) -> Result<[u8; STATE_BYTES]> {
+        self.command(b'G', &[])?;
+        self.end_piece()?;
+        self.receive()
     }
 
     fn reply_watched(&mut self) -> Result<Reply> {

@@ -1,4 +1,4 @@
-//! Tries the built library and the trace program against the reference: reference SEED AMOUNT NATIVE TRACE DRIVER.
+//! Tries the built libraries and the trace program against the reference: reference SEED AMOUNT NATIVE TRACE DRIVER RUN-DRIVER.
 //! A counterexample is also left next to the driver, as an input of the trace program.
 
 use std::env;
@@ -10,20 +10,23 @@ use std::time::Instant;
 
 use reference::compare::{self, Counterexample};
 use reference::corners::Corners;
+use reference::handed::Trial;
 use reference::hostile::{Hostile, Tally};
 use reference::library::Library;
 use reference::plans::Amount;
 use reference::program::Launch;
 use reference::random::Random;
+use reference::runs;
 
 struct Settings {
     seed: u64,
     amount: usize,
     trace: Launch,
     driver: Launch,
+    run_driver: Launch,
 }
 
-/// What one of the two comparisons came to.
+/// What one of the comparisons came to.
 #[derive(Default)]
 struct Finding {
     corners: Corners,
@@ -32,12 +35,12 @@ struct Finding {
 
 fn settings() -> Option<Settings> {
     let arguments: Vec<String> = env::args().skip(1).collect();
-    let [seed, amount, native, trace, driver] = arguments.as_slice() else {
+    let [seed, amount, native, trace, driver, run_driver] = arguments.as_slice() else {
         return None;
     };
     let launch = |program: &String| Launch { native: native.clone(), program: program.clone() };
     let (seed, amount) = (seed.parse().ok()?, amount.parse().ok()?);
-    Some(Settings { seed, amount, trace: launch(trace), driver: launch(driver) })
+    Some(Settings { seed, amount, trace: launch(trace), driver: launch(driver), run_driver: launch(run_driver) })
 }
 
 fn try_library(settings: &Settings, seed: u64) -> (Finding, Tally) {
@@ -57,8 +60,27 @@ fn try_hostile(library: &mut Library, calls: u64, seed: u64, corners: &mut Corne
     let ended = hostile.run(calls).err().map(|_| "the library's process ended".to_string());
     corners.add(&hostile.corners);
     let wrong = hostile.wrong.or(ended);
-    let wrong = wrong.map(|words| Counterexample { input: Vec::new(), words: format!("hostile call: {words}") });
-    (hostile.tally, wrong)
+    (hostile.tally, wrong.map(|words| Counterexample::told("hostile call", words)))
+}
+
+/// Calls on states that were never reached, by the number that came of them.
+fn try_handed(settings: &Settings, seed: u64) -> (Finding, [u64; 11]) {
+    let mut library = Library::new(settings.driver.clone());
+    let mut trial = Trial::new(&mut library, seed).expect("the driver answers");
+    let ended = |_| Some("the library's process ended".to_string());
+    let wrong = trial.run(2_000 * settings.amount as u64).unwrap_or_else(ended);
+    let wrong = wrong.map(|words| Counterexample::told("state never reached", words));
+    (Finding { corners: trial.corners, wrong }, trial.numbers)
+}
+
+/// How many runs were made.
+fn try_runs(settings: &Settings, seed: u64) -> (Finding, u64) {
+    let tried = runs::compare(&settings.run_driver, settings.amount as u64, seed);
+    let (runs, wrong) = match tried {
+        Ok(runs) => (runs, None),
+        Err(words) => (0, Some(Counterexample::told("run", words))),
+    };
+    (Finding { wrong, ..Finding::default() }, runs)
 }
 
 fn try_program(settings: &Settings, seed: u64) -> Finding {
@@ -68,45 +90,72 @@ fn try_program(settings: &Settings, seed: u64) -> Finding {
     finding
 }
 
-fn report(corners: &Corners, tally: &Tally, wrong: &[Counterexample], seconds: u64) -> bool {
+/// What was tried beside whole traces.
+struct Tried {
+    hostile: Tally,
+    handed: [u64; 11],
+    runs: u64,
+}
+
+impl Tried {
+    /// Damage that never spells a state, or always does, tries nothing; and each number is to be met.
+    fn enough(&self) -> bool {
+        let Tally { spelled, unspelled, numbers, .. } = &self.hostile;
+        let handed = [&self.handed[..1], &self.handed[3..]].concat();
+        *spelled > 0 && *unspelled > 0 && numbers.iter().chain(&handed).all(|&calls| calls > 0)
+    }
+}
+
+fn try_all(settings: &Settings) -> ([Finding; 4], Tried) {
+    let mut random = Random::new(settings.seed);
+    let [library_seed, program_seed, handed_seed, runs_seed] = [(); 4].map(|()| random.draw());
+    thread::scope(|scope| {
+        let library = scope.spawn(|| try_library(settings, library_seed));
+        let program = try_program(settings, program_seed);
+        let (by_handed, handed) = try_handed(settings, handed_seed);
+        let (by_runs, runs) = try_runs(settings, runs_seed);
+        let (by_library, hostile) = library.join().expect("the comparison with the library ends");
+        ([by_library, program, by_handed, by_runs], Tried { hostile, handed, runs })
+    })
+}
+
+fn report(corners: &Corners, tried: &Tried, wrong: &[Counterexample], seconds: u64) -> bool {
+    let hostile = &tried.hostile;
     corners.print();
-    println!("hostile calls by number: {:?}", tally.numbers);
-    println!("damaged states: {} spelled a state, {} none", tally.spelled, tally.unspelled);
+    println!("hostile calls by number: {:?}", hostile.numbers);
+    println!("damaged states: {} pass 3, {} do not", hostile.spelled, hostile.unspelled);
+    println!("calls on states never reached, by number: {:?}", tried.handed);
     for counterexample in wrong {
         println!("DIFFERENCE {}", counterexample.words);
     }
     let (samples, unreached) = (corners.samples, corners.unreached());
-    println!(
-        "outside: {samples} samples, {} hostile calls, {} differences, {unreached} corners not reached, {seconds} s",
-        tally.calls,
-        wrong.len()
-    );
-    // Damage that never spells a state, or always does, tries nothing; and each number is to be met.
-    let damage_tried = tally.spelled > 0 && tally.unspelled > 0 && tally.numbers.iter().all(|&calls| calls > 0);
-    wrong.is_empty() && unreached == 0 && damage_tried
+    let (calls, runs, differences) = (hostile.calls, tried.runs, wrong.len());
+    print!("outside: {samples} samples, {calls} hostile calls, {runs} runs, ");
+    println!("{differences} differences, {unreached} corners not reached, {seconds} s");
+    wrong.is_empty() && unreached == 0 && tried.enough()
 }
 
 fn main() -> ExitCode {
     let Some(settings) = settings() else {
-        eprintln!("usage: reference SEED AMOUNT NATIVE TRACE DRIVER");
+        eprintln!("usage: reference SEED AMOUNT NATIVE TRACE DRIVER RUN-DRIVER");
         return ExitCode::FAILURE;
     };
     let start = Instant::now();
-    let mut random = Random::new(settings.seed);
-    let (library_seed, program_seed) = (random.draw(), random.draw());
-    let ((by_library, tally), by_program) = thread::scope(|scope| {
-        let library = scope.spawn(|| try_library(&settings, library_seed));
-        let program = try_program(&settings, program_seed);
-        (library.join().expect("the comparison with the library ends"), program)
-    });
-    let mut corners = by_library.corners;
-    corners.add(&by_program.corners);
-    let wrong: Vec<Counterexample> = by_library.wrong.into_iter().chain(by_program.wrong).collect();
-    if let Some(counterexample) = wrong.iter().find(|counterexample| !counterexample.input.is_empty()) {
-        let file = Path::new(&settings.driver.program).with_file_name("counterexample.trace");
-        fs::write(file, &counterexample.input).expect("the counterexample can be left");
+    let left = Path::new(&settings.driver.program).with_file_name("counterexample.trace");
+    // One from an earlier run would be taken for this run's.
+    fs::remove_file(&left).ok();
+    let (findings, tried) = try_all(&settings);
+    let (mut corners, mut wrong) = (Corners::default(), Vec::new());
+    for finding in findings {
+        corners.add(&finding.corners);
+        wrong.extend(finding.wrong);
     }
-    match report(&corners, &tally, &wrong, start.elapsed().as_secs()) {
+    let passed = report(&corners, &tried, &wrong, start.elapsed().as_secs());
+    if let Some(counterexample) = wrong.iter().find(|counterexample| !counterexample.input.is_empty()) {
+        fs::write(&left, &counterexample.input).expect("the counterexample can be left");
+        println!("the counterexample, as an input of the trace program: {}", left.display());
+    }
+    match passed {
         true => ExitCode::SUCCESS,
         false => ExitCode::FAILURE,
     }

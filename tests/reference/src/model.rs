@@ -150,15 +150,13 @@ impl Model {
     fn answer(&self, pins: Pins) -> u32 {
         let fall_through = self.mode == Mode::FallThrough;
         let shown = self.offsets.shown.map_or(self.output, |offset| offset as u32);
-        let levels = [
+        let flags = [
             self.full() == fall_through,
             self.ready() != fall_through,
             self.held() <= self.part.depth / 2,
             self.reads.latest().almost,
             self.writes.latest().almost,
-            !pins.oe,
         ];
-        let flags = levels.iter().fold(0, |bits, &level| bits << 1 | u32::from(level));
-        flags << 18 | if pins.oe { 0 } else { shown }
+        pins.answer(flags, shown)
     }
 }

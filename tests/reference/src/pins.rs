@@ -62,8 +62,12 @@ impl Pins {
             self.read_skew_met,
             self.spare,
         ];
-        let high = levels.iter().fold(0, |bits, &level| bits << 1 | u32::from(level));
-        high << 18 | self.data
+        joined(&levels) << 18 | self.data
+    }
+
+    /// The flags in their order, whether Q is driven, and what it shows.
+    pub fn answer(self, flags: [bool; 5], shown: u32) -> u32 {
+        joined(&flags) << 19 | if self.oe { 0 } else { 1 << 18 | shown }
     }
 
     pub fn in_reset(self) -> bool {
@@ -74,4 +78,9 @@ impl Pins {
     pub fn enables_low(self) -> usize {
         [self.wen, self.ren, self.sen].iter().filter(|&&level| !level).count()
     }
+}
+
+/// The first level is the bit of most weight.
+fn joined(levels: &[bool]) -> u32 {
+    levels.iter().fold(0, |bits, &level| bits << 1 | u32::from(level))
 }

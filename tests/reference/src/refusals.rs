@@ -5,30 +5,62 @@ use crate::offsets::Method;
 use crate::part::Part;
 use crate::pins::Pins;
 
+/// What the table asks of a part, however it keeps it.
+pub trait Judged {
+    fn started(&self) -> bool;
+    /// Of WCLK and of RCLK.
+    fn rises(&self, pins: Pins) -> (bool, bool);
+    fn method(&self) -> Method;
+    fn may_retransmit(&self) -> bool;
+    fn retransmit_seen(&self) -> bool;
+}
+
+impl Judged for Model {
+    fn started(&self) -> bool {
+        Model::started(self)
+    }
+
+    fn rises(&self, pins: Pins) -> (bool, bool) {
+        (self.write_clock_rises(pins), self.read_clock_rises(pins))
+    }
+
+    fn method(&self) -> Method {
+        self.offsets.method
+    }
+
+    fn may_retransmit(&self) -> bool {
+        (1..=most_for_retransmit(self.part, self.mode)).contains(&self.written())
+    }
+
+    fn retransmit_seen(&self) -> bool {
+        Model::retransmit_seen(self)
+    }
+}
+
 /// Every number whose condition holds, in the order of the table, each looked at by itself.
-pub fn conditions(model: &Model, pins: Pins) -> impl Iterator<Item = u32> {
+pub fn conditions(judged: &impl Judged, pins: Pins) -> impl Iterator<Item = u32> {
     let running = !pins.in_reset();
-    let write_rise = running && model.write_clock_rises(pins);
-    let read_rise = running && model.read_clock_rises(pins);
+    let (wclk, rclk) = judged.rises(pins);
+    let (write_rise, read_rise) = (running && wclk, running && rclk);
     let retransmit = read_rise && !pins.rt;
     let held = [
         (4, pins.spare),
-        (5, !model.started() && pins.mrs),
+        (5, !judged.started() && pins.mrs),
         (6, (write_rise || read_rise) && !pins.ld && pins.enables_low() > 1),
-        (7, write_rise && !pins.ld && wrong_method(model, pins)),
+        (7, write_rise && !pins.ld && wrong_method(judged.method(), pins)),
         (8, retransmit && !(pins.ren && pins.wen)),
-        (9, retransmit && !may_retransmit(model)),
-        (10, write_rise && pins.ld && !pins.wen && !model.retransmit_seen()),
+        (9, retransmit && !judged.may_retransmit()),
+        (10, write_rise && pins.ld && !pins.wen && !judged.retransmit_seen()),
     ];
     held.into_iter().filter(|&(_, holds)| holds).map(|(number, _)| number)
 }
 
-pub fn refusal(model: &Model, pins: Pins) -> Option<u32> {
-    conditions(model, pins).next()
+pub fn refusal(judged: &impl Judged, pins: Pins) -> Option<u32> {
+    conditions(judged, pins).next()
 }
 
-fn wrong_method(model: &Model, pins: Pins) -> bool {
-    match model.offsets.method {
+fn wrong_method(method: Method, pins: Pins) -> bool {
+    match method {
         Method::Serial => !pins.wen,
         Method::Parallel => !pins.sen,
     }
@@ -40,8 +72,4 @@ pub fn most_for_retransmit(part: Part, mode: Mode) -> u64 {
         Mode::Standard => part.depth - 2,
         Mode::FallThrough => part.depth - 1,
     }
-}
-
-fn may_retransmit(model: &Model) -> bool {
-    (1..=most_for_retransmit(model.part, model.mode)).contains(&model.written())
 }

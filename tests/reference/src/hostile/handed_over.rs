@@ -7,7 +7,7 @@ use super::Hostile;
 use crate::corners::Corner;
 use crate::generator::{Generator, Plan};
 use crate::history::{first_stage, second_stage};
-use crate::library::Reply;
+use crate::library::{Call, Reply};
 use crate::model::{Mode, Model, Outcome};
 use crate::part::{Part, PARTS};
 use crate::random::Random;
@@ -64,13 +64,8 @@ impl Hostile<'_> {
     /// The saved state given to the other part, and put back.
     pub(super) fn hand_over(&mut self, model: &Model, other: Part, record: u32, memory: &mut [u32]) -> Result<()> {
         let expected = Reply::told(sampled(model, other, record, memory));
-        let call = self.right_call(other, record);
-        let reply = self.library.watched(&[call])?[0];
+        self.expect(&[(Call::right(other, record), expected)], "as the other part")?;
         self.library.restore_state()?;
-        self.count(&reply);
-        self.judge(expected == reply, || {
-            format!("as the other part, {call:X?}: expected {expected:X?}, got {reply:X?}")
-        });
         match reasons(model, other).as_slice() {
             [] if expected.number == 0 => self.corners.note_input(Corner::OtherPartTaken),
             [reason] => self.corners.note_input(*reason),

@@ -4,20 +4,22 @@ use std::io::Result;
 
 use super::Hostile;
 use crate::generator::Generator;
+use crate::handed::STATE_BYTES;
 use crate::library::{Call, Reply};
-use crate::model::Model;
+use crate::model::{Model, Outcome};
 use crate::part::PARTS;
+use crate::random::Random;
 
 impl Hostile<'_> {
     pub(super) fn lengths_of_power_up(&mut self) -> Result<()> {
-        let length = self.wrong_length(self.state_bytes);
+        let length = self.wrong_length(STATE_BYTES as u64);
         let told = self.library.power_up_of(length)?;
         self.judge((2, 0) == told, || format!("power-up of {length} bytes gave {told:?}"));
         Ok(())
     }
 
     pub(super) fn part_numbers(&mut self) -> Result<()> {
-        let part = self.wrong_part();
+        let part = wrong_part(&mut self.random);
         let bytes = self.library.memory_bytes(part)?;
         self.judge(bytes == 0, || format!("memory of part {part} is said to have {bytes} bytes"));
         for part in PARTS {
@@ -33,22 +35,14 @@ impl Hostile<'_> {
         model: &mut Model,
         memory: &mut [u32],
     ) -> Result<()> {
-        let (mut calls, mut numbers) = (Vec::new(), Vec::new());
+        let mut calls = Vec::new();
         for _ in 0..self.random.below(300) {
-            let mut call = self.right_call(model.part, generator.next(model));
+            let mut call = Call::right(model.part, generator.next(model));
             let spoiled = self.random.flip().then(|| self.spoil(&mut call));
-            calls.push(call);
-            numbers.push(match spoiled {
-                Some(number) => Reply { number, answer: 0, moved: 0 },
-                None => Reply::told(model.sample(call.record, memory)),
-            });
+            let outcome = spoiled.map_or_else(|| model.sample(call.record, memory), Outcome::Refused);
+            calls.push((call, Reply::told(outcome)));
         }
-        let replies = self.library.watched(&calls)?;
-        for ((call, expected), reply) in calls.iter().zip(&numbers).zip(&replies) {
-            self.count(reply);
-            self.judge(expected == reply, || format!("{call:X?}: expected {expected:X?}, got {reply:X?}"));
-        }
-        Ok(())
+        self.expect(&calls, "between right calls")
     }
 
     /// Makes one or more things wrong, and gives the number that comes of it: the first in the order of the table.
@@ -58,7 +52,7 @@ impl Hostile<'_> {
         if wrongs & 1 != 0 {
             call.record_length = self.wrong_length(4);
         }
-        for (bit, right) in [(2, self.state_bytes), (4, call.memory_length), (8, 3)] {
+        for (bit, right) in [(2, call.state_length), (4, call.memory_length), (8, 3)] {
             if wrongs & bit != 0 {
                 let wrong = self.wrong_length(right);
                 match bit {
@@ -70,7 +64,7 @@ impl Hostile<'_> {
             }
         }
         if wrongs & 16 != 0 {
-            call.part = self.wrong_part();
+            call.part = wrong_part(&mut self.random);
             number = 1;
         }
         number
@@ -90,11 +84,12 @@ impl Hostile<'_> {
             length
         }
     }
+}
 
-    fn wrong_part(&mut self) -> u32 {
-        let right = u32::from(self.random.pick(&PARTS).number);
-        let high = right | 1 << (9 + self.random.below(23));
-        let thrown = self.random.bits() | 1 << 10;
-        self.random.pick(&[0, 1, 254, 256, 264, 266, right.swap_bytes(), high, thrown])
-    }
+/// Near a part's number, and right but for bits that a narrower number would not hold.
+pub fn wrong_part(random: &mut Random) -> u32 {
+    let right = u32::from(random.pick(&PARTS).number);
+    let high = right | 1 << (9 + random.below(23));
+    let thrown = random.bits() | 1 << 10;
+    random.pick(&[0, 1, 254, 256, 264, 266, right.swap_bytes(), high, thrown])
 }
