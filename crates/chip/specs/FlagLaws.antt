@@ -1,5 +1,5 @@
 -- The two sides: the level of each flag, from the numbers that the rule names.
-use Prim.Native.Nat.{ℕ, _+_, _-_, _/_, _%_, _^_, _≤_, _<_}
+use Prim.Native.Nat.{ℕ, _-_, _/_, _≤_, _<_}
 use mathlib.Core.Bool.{Bool, true, not}
 use mathlib.Core.Logic.{_≢_, _↔_}
 use mathlib.Core.Path.{_≡_, refl}
@@ -19,12 +19,8 @@ use Rattle.views.specs.Retransmit.{isOver, setupAfter}
 use Rattle.chip.specs.declared.state.State.{State}
 use Rattle.chip.specs.Advance.{running, stateAfter}
 use Rattle.chip.specs.Answer.{answerOf, linesOf}
-use Rattle.chip.specs.Levels.{High, Low, Outside, ReadRise, WriteRise}
+use Rattle.chip.specs.Levels.{High, Low, Outside, ReadRise, WriteRise, lessRound}
 use Rattle.chip.specs.Tells.{Tells, yes, no, at-most, both, fails, high-where, low-where, none, read-rise, same, write-rise}
-
--- a count less an earlier one, round the width
-abbrev pub apart : ℕ → ℕ → ℕ
-apart count earlier = (count + (2 ^ 16 - earlier)) % 2 ^ 16
 
 over : (setup : Setup) → Tells (setup ≡ Over) (isOver setup)
 over Over = yes refl
@@ -34,7 +30,7 @@ over TwoMore = no (λ e. let z : _≡_ {A = ℕ} 0 1 = cc in omega arith)
 module _ (part : Part) (p : Pins) (fetched : ℕ) (s : State) (outside : Outside p) where
   -- by the offset from before the sample, whatever the sample loads
   pub paf-judged : WriteRise p s → let w = stateAfter part p fetched s .write in
-      Low (w .paf) ↔ (depthOf part - s .offsets .m ≤ apart (w .count .0) (w .second .0))
+      Low (w .paf) ↔ (depthOf part - s .offsets .m ≤ lessRound (w .count .0) (w .second .0))
   unfolding stateAfter running writeAfter writeRises
   paf-judged rise = simp (outside .0, outside .1, rise .0, rise .1) (low-where (at-most _ _))
 
@@ -47,7 +43,7 @@ module _ (part : Part) (p : Pins) (fetched : ℕ) (s : State) (outside : Outside
   Judged = ReadRise p s × (stateAfter part p fetched s .read .setup ≡ Over)
 
   pub pae-judged : Judged → let r = stateAfter part p fetched s .read in
-      Low (r .pae) ↔ (apart (r .second .0) (r .count .0) ≤ s .offsets .n)
+      Low (r .pae) ↔ (lessRound (r .second .0) (r .count .0) ≤ s .offsets .n)
   unfolding stateAfter running readAfter readRises
   pae-judged (rise, done) =
       let again : setupAfter true (p .rt) (s .read .setup) ≡ Over = simp (outside .0, outside .1, rise .0, rise .1) at done in
@@ -61,13 +57,13 @@ module _ (part : Part) (p : Pins) (fetched : ℕ) (s : State) (outside : Outside
 
 module _ (part : Part) (p : Pins) (s : State) where
   -- HF, at all times
-  pub half-full : Low (bit 21 (answerOf part p s)) ↔ (depthOf part / 2 < apart (s .write .count .0) (s .read .count .0))
+  pub half-full : Low (bit 21 (answerOf part p s)) ↔ (depthOf part / 2 < lessRound (s .write .count .0) (s .read .count .0))
   unfolding answerOf linesOf
   half-full = rw (laid (linesOf part (p .oe) s) .hf) (low-where (at-most _ _))
 
   -- FF LOW when full; EF LOW when the second stage equals the read count, and in a retransmit's setup
   pub standard-flags : s .read .mode ≡ Standard
-      → (Low (bit 23 (answerOf part p s)) ↔ (apart (s .write .count .0) (s .write .second .0) ≡ depthOf part))
+      → (Low (bit 23 (answerOf part p s)) ↔ (lessRound (s .write .count .0) (s .write .second .0) ≡ depthOf part))
       × (High (bit 22 (answerOf part p s)) ↔ ((s .read .setup ≡ Over) × (s .read .second .0 ≢ s .read .count .0)))
   unfolding answerOf linesOf full ready seesWord
   standard-flags e =
@@ -76,7 +72,7 @@ module _ (part : Part) (p : Pins) (s : State) where
 
   -- IR HIGH when full; OR LOW while the output register holds an untaken word
   pub fwft-flags : (untaken : Bool) → s .read .mode ≡ Fwft untaken
-      → (High (bit 23 (answerOf part p s)) ↔ (apart (s .write .count .0) (s .write .second .0) ≡ depthOf part))
+      → (High (bit 23 (answerOf part p s)) ↔ (lessRound (s .write .count .0) (s .write .second .0) ≡ depthOf part))
       × (bit 22 (answerOf part p s) ≡ not untaken)
   unfolding answerOf linesOf full ready
   fwft-flags untaken e =

@@ -9,7 +9,7 @@ use Rattle.counts.specs.declared.part.Part.{Part}
 use Rattle.counts.specs.declared.part.Part.the-variants.{Idt72V255LA, Idt72V265LA}
 use Rattle.counts.specs.Laws.{place-below}
 use Rattle.counts.specs.Part.{depthOf, offsetBits, placeBits, within}
-use Rattle.counts.specs.Round.{ahead, placeOf}
+use Rattle.counts.specs.Round.{placeOf}
 use Rattle.offsets.specs.Reading.{shown, shownFits}
 use Rattle.offsets.specs.declared.reading.Shows.{Shows}
 use Rattle.offsets.specs.declared.reading.Shows.the-variants.{Register, Offset}
@@ -22,7 +22,7 @@ use Rattle.chip.specs.declared.advance.Store.the-variants.{Keep, Put}
 use Rattle.chip.specs.declared.state.State.{State}
 use Rattle.chip.specs.Advance.{storeOf}
 use Rattle.chip.specs.Answer.{answerOf, linesOf}
-use Rattle.chip.specs.Levels.{High, Low, Outside, WriteRise}
+use Rattle.chip.specs.Levels.{High, Low, Outside, WriteRise, lessRound}
 use Rattle.chip.specs.State.{widths}
 use Rattle.chip.specs.Tells.{Tells, both, fails, four, high, high-where, low, none, same, write-rise}
 use Rattle.chip.specs.Widths.{apart}
@@ -42,7 +42,7 @@ store-placed part p s = placed-by part (p .mrs && p .prs && accepts (depthOf par
 
 -- outside reset, a WCLK rise with LD HIGH and WEN LOW, and not full before the sample
 abbrev pub Accepted : Part → Pins → State → Type 0
-Accepted part p s = Outside p × (WriteRise p s × High (p .ld) × Low (p .wen) × (ahead (s .write .count) (s .write .second) ≢ depthOf part))
+Accepted part p s = Outside p × (WriteRise p s × High (p .ld) × Low (p .wen) × (lessRound (s .write .count .0) (s .write .second .0) ≢ depthOf part))
 
 accepted : (part : Part) (p : Pins) (s : State) → Tells (Accepted part p s) (p .mrs && p .prs && accepts (depthOf part) p (s .write))
 unfolding accepts full

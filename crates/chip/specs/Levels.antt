@@ -1,4 +1,6 @@
--- Trace sample: pins are levels, and a clock rises between the level last accepted and the present one.
+-- What the laws speak of. Trace sample: levels, and a rise between the level last accepted and the present one. The two sides: differences
+-- of counts and stages, round the width.
+use Prim.Native.Nat.{ℕ, _+_, _-_, _%_, _^_}
 use mathlib.Core.Bool.{Bool, true, false}
 use mathlib.Core.Path.{_≡_}
 use Rattle.pins.specs.declared.record.Pins.{Pins}
@@ -22,3 +24,6 @@ ReadRise p s = Rise (s .read .level) (p .rclk)
 -- no reset in this sample
 abbrev pub Outside : Pins → Type 0
 Outside p = High (p .mrs) × High (p .prs)
+
+abbrev pub lessRound : ℕ → ℕ → ℕ
+lessRound count earlier = (count + (2 ^ 16 - earlier)) % 2 ^ 16

@@ -6,12 +6,12 @@ use borrow.Author.Tests.{le-leb, leb-true, lt-ltb, ltb-true}
 use Rattle.counts.specs.declared.part.Part.{Part}
 use Rattle.counts.specs.declared.part.Part.the-variants.{Idt72V255LA, Idt72V265LA}
 use Rattle.counts.specs.Part.{depthOf, offsetBits, serialBits}
-use Rattle.counts.specs.Round.{ahead, behind}
 use Rattle.offsets.specs.declared.reading.Shows.{Shows}
 use Rattle.offsets.specs.declared.reading.Shows.the-variants.{Register, Offset}
 use Rattle.offsets.specs.Fits.{fits, fitting}
 use Rattle.offsets.specs.Reading.{shownFits}
 use Rattle.chip.specs.declared.state.State.{State}
+use Rattle.chip.specs.Levels.{lessRound}
 use Rattle.chip.specs.State.{inReach, passes, widths}
 use Rattle.chip.specs.Widths.{apart}
 
@@ -36,12 +36,12 @@ pub record Passing (part : Part) (s : State) : Type 0 where
   pub count : s .offsets .count < bothBits part
   pub serial : s .offsets .serial < 2 ^ s .offsets .count
   pub output : s .read .output < 2 ^ 18
-  pub read : ahead (s .write .count) (s .read .count) ≤ depthOf part
-  pub writeFirst : ahead (s .write .count) (s .write .first) ≤ depthOf part
-  pub writeSecond : ahead (s .write .count) (s .write .second) ≤ depthOf part
-  pub readFirst : behind (s .write .count) (s .read .first) ≤ depthOf part
-  pub readSecond : behind (s .write .count) (s .read .second) ≤ depthOf part
-  pub notBehind : behind (s .write .count) (s .read .second) ≤ ahead (s .write .count) (s .read .count)
+  pub read : lessRound (s .write .count .0) (s .read .count .0) ≤ depthOf part
+  pub writeFirst : lessRound (s .write .count .0) (s .write .first .0) ≤ depthOf part
+  pub writeSecond : lessRound (s .write .count .0) (s .write .second .0) ≤ depthOf part
+  pub readFirst : lessRound (s .write .count .0) (s .read .first .0) ≤ depthOf part
+  pub readSecond : lessRound (s .write .count .0) (s .read .second .0) ≤ depthOf part
+  pub notBehind : lessRound (s .write .count .0) (s .read .second .0) ≤ lessRound (s .write .count .0) (s .read .count .0)
 
 same-offset : (part : Part) → 2 ^ offsetBits part ≡ aboveOffset part
 same-offset Idt72V255LA = refl
@@ -96,10 +96,10 @@ module _ (part : Part) (s : State) where
         fitting part (s .offsets) (record { n = rw same-offset (h .n); m = rw same-offset (h .m); count = rw same-bits (h .count); serial = h .serial }),
         below-shown part (s .reading .shows) (rw same-offset (h .shown)),
         lt-ltb (s .read .output) (2 ^ 18) (h .output),
-        le-leb (ahead (s .write .count) (s .read .count)) (depthOf part) (h .read),
-        le-leb (ahead (s .write .count) (s .write .first)) (depthOf part) (h .writeFirst),
-        le-leb (ahead (s .write .count) (s .write .second)) (depthOf part) (h .writeSecond),
-        le-leb (behind (s .write .count) (s .read .first)) (depthOf part) (h .readFirst),
-        le-leb (behind (s .write .count) (s .read .second)) (depthOf part) (h .readSecond),
-        le-leb (behind (s .write .count) (s .read .second)) (ahead (s .write .count) (s .read .count)) (h .notBehind),
+        le-leb (lessRound (s .write .count .0) (s .read .count .0)) (depthOf part) (h .read),
+        le-leb (lessRound (s .write .count .0) (s .write .first .0)) (depthOf part) (h .writeFirst),
+        le-leb (lessRound (s .write .count .0) (s .write .second .0)) (depthOf part) (h .writeSecond),
+        le-leb (lessRound (s .write .count .0) (s .read .first .0)) (depthOf part) (h .readFirst),
+        le-leb (lessRound (s .write .count .0) (s .read .second .0)) (depthOf part) (h .readSecond),
+        le-leb (lessRound (s .write .count .0) (s .read .second .0)) (lessRound (s .write .count .0) (s .read .count .0)) (h .notBehind),
       )
