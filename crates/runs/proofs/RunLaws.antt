@@ -27,7 +27,7 @@ use Rattle.fifo.specs.declared.sample.Outcome.the-variants.{Taken, Refused}
 use Rattle.fifo.specs.declared.sample.Sampled.{Sampled}
 use Rattle.runs.specs.Run.{Ended, Ends, Progress, acceptedAfter, atEnd, ended, folded, marksAfter, noted, roomy, runOf, stops, worked}
 use Rattle.pins.specs.Answer.{putAnswer}
-use Rattle.fifo.specs.Sample.{After, Gives, answersAfter, isDepth, numberOf, stepped}
+use Rattle.fifo.specs.Sample.{After, Gives, answerIn, answersAfter, isDepth, isTaken, numberOf, stepped}
 use Rattle.fifo.specs.SampleLaws.{refused-still, step-length, step-widths}
 
 pub no-whole : (r : Record) → (tagOf the-type r ≡ 1) ⊎ (tagOf the-type r ≡ 2) → isWhole r ≡ false
@@ -43,6 +43,15 @@ answers-length (Refused number) index room = refl
 marks-length : (lenient : Bool) (outcome : Outcome) (index : ℕ) (room : List ℕ) → length (marksAfter lenient outcome index room) ≡ length room
 marks-length true outcome index room = length-set room index (numberOf outcome)
 marks-length false outcome index room = refl
+
+pub answer-noted : (outcome : Outcome) (index : ℕ) (room : List ℕ) → isTaken outcome ≡ true
+    → putAnswer room index (answerIn outcome) ≡ answersAfter outcome index room
+answer-noted (Taken answer) index room e = refl
+answer-noted (Refused number) index room e = let z : _≡_ {A = ℕ} 0 1 = cc in absurd (omega arith)
+
+pub none-noted : (outcome : Outcome) (index : ℕ) (room : List ℕ) → isTaken outcome ≡ false → room ≡ answersAfter outcome index room
+none-noted (Taken answer) index room e = let z : _≡_ {A = ℕ} 0 1 = cc in absurd (omega arith)
+none-noted (Refused number) index room e = refl
 
 accepted-most : (outcome : Outcome) (accepted index : ℕ) → accepted ≤ index → acceptedAfter outcome accepted ≤ index + 1
 accepted-most (Taken answer) accepted index h = omega arith

@@ -15,7 +15,7 @@ returns c =
     turned-away
     (run-unknown (a .lenient) (a .part) (now (a .trace)) (started (a .state) (now (a .memory)) (now (a .answers)) (now (a .marks)))
     (looked .look-up .ensures) (c .before .enum-told .given .1))
-    (c .turn-away .ensures)
+    (c .end-at .ensures)
 
 go-requires : tie.Need-go-requires
 go-requires c κs =
@@ -56,7 +56,7 @@ returns-3 c =
     (looked .look-up .ensures) _ (known .looked-up .given .1)
     (sym (cc (sized .is-depth .ensures, roomy .is-roomy .ensures)) ∙ tested .before .if1 .taken)
     (sym (tested .passes-test .ensures) ∙ c .before .if2 .left))
-    (c .turn-away2 .ensures)
+    (c .end-at2 .ensures)
 
 returns-4 : tie.Need-returns-4
 returns-4 c =
@@ -69,7 +69,7 @@ returns-4 c =
     (run-room (a .lenient) (a .part) (now (a .trace)) (started (a .state) (now (a .memory)) (now (a .answers)) (now (a .marks)))
     (looked .look-up .ensures) _ (known .looked-up .given .1)
     (sym (cc (sized .is-depth .ensures, roomy .is-roomy .ensures)) ∙ c .before .if1 .left))
-    (c .turn-away3 .ensures)
+    (c .end-at3 .ensures)
 
 pub begin-spec : {M : Type 1} → statement M
 begin-spec =
