@@ -16,7 +16,7 @@ use Rattle.fifo.specs.NumberLaws.{askedBy, known}
 use Rattle.fifo.specs.Sample.{recordRefusal}
 use Rattle.pins.specs.Record.{bit, pinsOf}
 use Rattle.pins.specs.Trace.{wordAt}
-use Rattle.fifo_c.specs.Call.{byVerdict, called, decided, judged, memoryBytes, onRecord, onState, powered, taken, worked}
+use Rattle.fifo_c.specs.Call.{byVerdict, called, decided, judged, memoryBytes, memoryFor, onRecord, onState, powered, taken, worked}
 use Rattle.spelling.specs.Spelling.{spells, stateIn}
 
 -- Parts and paper authority: each part's memory in bytes, four for each word of its depth
@@ -96,3 +96,11 @@ module _ (state : List ℕ) where
   pub power-up-gives-two : length state ≢ 48 → powered state .code ≡ 2
   unfolding powered
   power-up-gives-two n = simp (ne-eqb (length state) 48 n)
+
+-- the length of a memory, 0 where the number is no part's
+pub memory-asked : (part : Part) → memoryFor (askedBy part) ≡ memoryLength part
+memory-asked Idt72V255LA = refl
+memory-asked Idt72V265LA = refl
+
+pub no-memory : (number : ℕ) → number ≢ 255 → number ≢ 265 → memoryFor number ≡ 0
+no-memory number n m = simp (ne-eqb number 255 n, ne-eqb number 265 m)
