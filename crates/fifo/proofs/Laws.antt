@@ -2,7 +2,7 @@
 use Prim.Native.Nat.{ℕ, zero, suc, _≤_}
 use mathlib.Core.Bool.{true, false}
 use mathlib.Core.List.{List, [], _∷_}
-use mathlib.Core.Path.{_≡_, refl, sym, _∙_}
+use mathlib.Core.Path.{_≡_, refl, sym, ap, _∙_}
 use lib.ListN.{getD, length}
 use borrow.Author.Tests.{eq-eqb, ne-eqb}
 use native.Mathlib.Nat.{le-of-suc-le-suc, not-suc-le-zero}
@@ -15,15 +15,27 @@ use Rattle.counts.specs.Part.{partOf}
 use Rattle.pins.specs.declared.record.Pins.{Pins}
 use Rattle.pins.specs.Record.{pinsOf}
 use Rattle.fifo.specs.declared.sample.Sampled.{Sampled}
-use Rattle.fifo.specs.Sample.{After, Gives, isDepth, recordRefusal, sampled, stepped, taken, turnedAway}
+use Rattle.fifo.specs.NumberLaws.{Numbered, sample-numbered, step-numbered}
+use Rattle.fifo.specs.Sample.{After, Gives, Samples, Steps, isDepth, numberOf, recordRefusal, sampled, stepped, taken, turnedAway}
 
 pub none-past : (words : List ℕ) (place : ℕ) → length words ≤ place → 0 ≡ getD words place 0
 none-past [] place h = refl
 none-past (x ∷ xs) zero h = absurd (not-suc-le-zero h)
 none-past (x ∷ xs) (suc place) h = none-past xs place (le-of-suc-le-suc h)
 
-pub gives-by : {a b : After} {r : Sampled} {memory : List ℕ} → a ≡ b → Gives b r memory → Gives a r memory
+gives-by : {a b : After} {r : Sampled} {memory : List ℕ} → a ≡ b → Gives b r memory → Gives a r memory
 gives-by e g = record { result = g .result ∙ sym (cc e); words = g .words ∙ sym (cc e) }
+
+numbered-by : {number : ℕ} {a : After} {s : State} {memory after : List ℕ} {r : Sampled} → Numbered number a s memory → Gives a r after
+    → numberOf (r .outcome) ≡ number
+numbered-by n g = ap (λ (r : Sampled). numberOf (r .outcome)) (g .result) ∙ n .told
+
+module _ {x : ℕ} {s : State} {memory after : List ℕ} {r : Sampled} {b : After} where
+  pub steps-by : {part : Part} → stepped part x s memory ≡ b → Gives b r after → Steps part x s memory r after
+  steps-by e g = let h = gives-by e g in record { refusal = numbered-by (step-numbered s memory x _) h; gives = h }
+
+  pub samples-by : {number : ℕ} → sampled number x s memory ≡ b → Gives b r after → Samples number x s memory r after
+  samples-by e g = let h = gives-by e g in record { refusal = numbered-by (sample-numbered s memory x _) h; gives = h }
 
 pub gives-refusal : {number : ℕ} {s : State} {r : Sampled} {memory : List ℕ} → r ≡ turnedAway number s memory .sampled
     → Gives (turnedAway number s memory) r memory

@@ -1,3 +1,4 @@
+pub mod NumberLaws
 pub mod Sample
 pub mod SampleLaws
 pub mod Still

@@ -1,6 +1,6 @@
 -- One sample over a memory: What is turned away, and what a taken one gives.
 use Prim.Native.Nat.{ℕ}
-use mathlib.Core.Bool.{Bool, cond}
+use mathlib.Core.Bool.{Bool, true, false, cond}
 use mathlib.Core.List.{List}
 use mathlib.Core.Path.{_≡_}
 use lib.Dec.{eqb}
@@ -20,12 +20,20 @@ use Rattle.fifo.specs.declared.sample.Outcome.{Outcome}
 use Rattle.fifo.specs.declared.sample.Outcome.the-variants.{Taken, Refused}
 use Rattle.fifo.specs.declared.sample.Sampled.{Sampled}
 
--- the refusal's number, 0 where the sample is taken
+-- What an outcome stands for: its number, 0 where the sample is taken
 abbrev pub numberOf : Outcome → ℕ
 numberOf (Taken answer) = 0
 numberOf (Refused number) = number
 
--- the answer of a record in a room for answers: a refused one writes none
+abbrev pub isTaken : Outcome → Bool
+isTaken (Taken answer) = true
+isTaken (Refused number) = false
+
+abbrev pub answerIn : Outcome → ℕ
+answerIn (Taken answer) = answer
+answerIn (Refused number) = 0
+
+-- and its value, the answer, in a room for answers: a refused one writes none
 abbrev pub answersAfter : Outcome → ℕ → List ℕ → List ℕ
 answersAfter (Taken answer) index room = putAnswer room index answer
 answersAfter (Refused number) index room = room
@@ -71,14 +79,20 @@ sampled number x s memory =
     (λ part. cond (isDepth part (length memory)) (cond (passes part s) (stepped part x s memory) (turnedAway 3 s memory)) (turnedAway 2 s memory))
     (turnedAway 1 s memory)
 
+-- the first that applies of 1, 2 and 3, for a memory of so many words, and then of the record's; 0 where none does
+unfoldable pub sampleRefusal : ℕ → ℕ → State → ℕ → ℕ
+sampleRefusal number x s words =
+    byPart (partOf number) (λ part. cond (isDepth part words) (cond (passes part s) (recordRefusal part x s) 3) 2) 1
+
 -- a result and a memory that are those of a definition
 pub record Gives (expected : After) (r : Sampled) (memory : List ℕ) : Type 0 where
   pub result : r ≡ expected .sampled
   pub words : memory ≡ expected .memory
 
-abbrev pub Steps : Part → ℕ → State → List ℕ → Sampled → List ℕ → Type 0
-Steps part x s memory r after = Gives (stepped part x s memory) r after
+pub record Steps (part : Part) (x : ℕ) (s : State) (memory : List ℕ) (r : Sampled) (after : List ℕ) : Type 0 where
+  pub refusal : numberOf (r .outcome) ≡ recordRefusal part x s
+  pub gives : Gives (stepped part x s memory) r after
 
 pub record Samples (number x : ℕ) (s : State) (memory : List ℕ) (r : Sampled) (after : List ℕ) : Type 0 where
-  pub result : r ≡ sampled number x s memory .sampled
-  pub words : after ≡ sampled number x s memory .memory
+  pub refusal : numberOf (r .outcome) ≡ sampleRefusal number x s (length memory)
+  pub gives : Gives (sampled number x s memory) r after

@@ -10,28 +10,19 @@ use lib.ListN.{length}
 use borrow.Author.Tests.{eq-eqb, eqb-true, ne-eqb}
 use Rattle.refusals.specs.Refuse.{refusalOf}
 use Rattle.chip.specs.State.{passes}
-use Rattle.counts.specs.declared.part.Lookup.the-variants.{Known}
 use Rattle.counts.specs.declared.part.Part.{Part}
 use Rattle.counts.specs.declared.part.Part.the-variants.{Idt72V255LA, Idt72V265LA}
-use Rattle.counts.specs.Part.{partOf}
+use Rattle.fifo.specs.NumberLaws.{askedBy, known}
 use Rattle.fifo.specs.Sample.{recordRefusal}
 use Rattle.pins.specs.Record.{bit, pinsOf}
 use Rattle.pins.specs.Trace.{wordAt}
-use Rattle.fifo_c.specs.Call.{byVerdict, called, decided, judged, memoryBytes, onRecord, onState, powered, taken, worked}
+use Rattle.fifo_c.specs.Call.{byVerdict, called, decided, judged, memoryBytes, memoryFor, onRecord, onState, powered, taken, worked}
 use Rattle.spelling.specs.Spelling.{spells, stateIn}
 
--- Parts and paper authority: each part's number, and its memory in bytes, four for each word of its depth
-abbrev pub askedBy : Part → ℕ
-askedBy Idt72V255LA = 255
-askedBy Idt72V265LA = 265
-
+-- Parts and paper authority: each part's memory in bytes, four for each word of its depth
 abbrev pub memoryLength : Part → ℕ
 memoryLength Idt72V255LA = 32768
 memoryLength Idt72V265LA = 65536
-
-known : (part : Part) → partOf (askedBy part) ≡ Known part
-known Idt72V255LA = refl
-known Idt72V265LA = refl
 
 same-length : (part : Part) → memoryLength part ≡ memoryBytes part
 same-length Idt72V255LA = refl
@@ -105,3 +96,11 @@ module _ (state : List ℕ) where
   pub power-up-gives-two : length state ≢ 48 → powered state .code ≡ 2
   unfolding powered
   power-up-gives-two n = simp (ne-eqb (length state) 48 n)
+
+-- the length of a memory, 0 where the number is no part's
+pub memory-asked : (part : Part) → memoryFor (askedBy part) ≡ memoryLength part
+memory-asked Idt72V255LA = refl
+memory-asked Idt72V265LA = refl
+
+pub no-memory : (number : ℕ) → number ≢ 255 → number ≢ 265 → memoryFor number ≡ 0
+no-memory number n m = simp (ne-eqb number 255 n, ne-eqb number 265 m)

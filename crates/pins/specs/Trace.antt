@@ -1,6 +1,6 @@
 -- Trace sample, on bytes: the records of a trace.
 use Prim.Native.Nat.{ℕ, zero, suc, _+_, _*_, _/_, _%_, _^_}
-use mathlib.Core.Bool.{cond}
+use mathlib.Core.Bool.{cond, _||_}
 use mathlib.Core.List.{List, [], _∷_}
 use mathlib.Core.Path.{_≡_}
 use lib.Dec.{eqb, ltb}
@@ -28,8 +28,13 @@ numberOf (Whole word) = 0
 numberOf Leftover = 4
 numberOf End = 0
 
-abbrev pub Reads : List ℕ → ℕ → Record → Type 0
-Reads trace index r = r ≡ recordAt trace index
+-- 4 past the whole records of a trace that has bytes left over
+abbrev pub recordNumber : List ℕ → ℕ → ℕ
+recordNumber trace index = cond (ltb index (wholeRecords trace) || eqb (length trace % 4) 0) 0 4
+
+pub record Reads (trace : List ℕ) (index : ℕ) (r : Record) : Type 0 where
+  pub number : numberOf r ≡ recordNumber trace index
+  pub result : r ≡ recordAt trace index
 
 -- as many records from an index on
 unfoldable pub recordsFrom : List ℕ → ℕ → ℕ → List ℕ

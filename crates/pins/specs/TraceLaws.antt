@@ -1,6 +1,6 @@
 -- Trace sample, on bytes: which index has a record, and the records one after the other.
 use Prim.Native.Nat.{ℕ, zero, suc, _+_, _*_, _-_, _%_, _≤_, _<_}
-use mathlib.Core.Bool.{Bool, true, false, cond}
+use mathlib.Core.Bool.{Bool, true, false, cond, _||_}
 use mathlib.Core.List.{List, _∷_, _++_}
 use mathlib.Core.Path.{_≡_, refl, sym, ap, _∙_}
 use lib.Dec.{eqb, ltb}
@@ -11,7 +11,7 @@ use native.Mathlib.Nat.{add-zero, suc-add, zero-add}
 use native.Mathlib.Omega.{arith}
 use Rattle.pins.specs.declared.trace.Record.{Record}
 use Rattle.pins.specs.declared.trace.Record.the-variants.{Whole, Leftover, End}
-use Rattle.pins.specs.Trace.{Reads, numberOf, recordAt, recordsFrom, wholeRecords, wordAt}
+use Rattle.pins.specs.Trace.{Reads, numberOf, recordAt, recordNumber, recordsFrom, wholeRecords, wordAt}
 
 abbrev pub isWhole : Record → Bool
 isWhole (Whole word) = true
@@ -51,14 +51,20 @@ module _ (trace : List ℕ) (index : ℕ) {word : ℕ} (e : recordAt trace index
 pub none-whole : (trace : List ℕ) (index : ℕ) → isWhole (recordAt trace index) ≡ false → wholeRecords trace ≤ index
 none-whole trace index e = ltb-false index (wholeRecords trace) (sym (whole-told trace index) ∙ e)
 
-end-by : (clean : Bool) → numberOf (cond clean End Leftover) ≡ cond clean 0 4
-end-by true = refl
-end-by false = refl
+number-by : (there clean : Bool) (word : ℕ) → numberOf (cond there (Whole word) (cond clean End Leftover)) ≡ cond (there || clean) 0 4
+number-by true clean word = refl
+number-by false true word = refl
+number-by false false word = refl
+
+pub number-told : (trace : List ℕ) (index : ℕ) → numberOf (recordAt trace index) ≡ recordNumber trace index
+unfolding recordAt
+number-told trace index = number-by (ltb index (wholeRecords trace)) (eqb (length trace % 4) 0) (wordAt trace (index * 4))
 
 -- past the whole records only the bytes left over count
 pub end-told : (trace : List ℕ) → numberOf (recordAt trace (wholeRecords trace)) ≡ cond (eqb (length trace % 4) 0) 0 4
-unfolding recordAt
-end-told trace = rw (le-ltb (wholeRecords trace) (wholeRecords trace) (omega arith)) (end-by (eqb (length trace % 4) 0))
+end-told trace =
+    number-told trace (wholeRecords trace)
+    ∙ rw (le-ltb (wholeRecords trace) (wholeRecords trace) (omega arith)) refl
 
 pub records-length : (trace : List ℕ) (index many : ℕ) → length (recordsFrom trace index many) ≡ many
 unfolding recordsFrom
@@ -115,4 +121,4 @@ module _ (u v : List ℕ) (whole : ℕ) (e : length u ≡ whole * 4) where
 
 -- What counts as an answer proved
 pub record-unique : (trace : List ℕ) (index : ℕ) (a b : Record) → Reads trace index a → Reads trace index b → a ≡ b
-record-unique trace index a b e f = e ∙ sym f
+record-unique trace index a b f g = f .result ∙ sym (g .result)

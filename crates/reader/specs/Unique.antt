@@ -2,8 +2,9 @@
 use Prim.Native.Nat.{ℕ}
 use mathlib.Core.List.{List}
 use mathlib.Core.Path.{_≡_, sym, _∙_}
-use denote.Ref.{RefT}
+use denote.Ref.{RefT, now}
 use Rattle.pins.specs.declared.trace.Record.{Record}
+use Rattle.pins.specs.TraceLaws.{record-unique}
 use Rattle.reader.specs.declared.Reader.{Reader}
 use Rattle.reader.specs.Reader.{Finds, Moves, Opens}
 
@@ -14,4 +15,4 @@ pub at-unique : (reader : Reader) (index : ℕ) (a b : Reader) → Moves reader 
 at-unique reader index a b e f = e ∙ sym f
 
 pub read-unique : (reader : Reader) (a b : Record) → Finds reader a → Finds reader b → a ≡ b
-read-unique reader a b e f = e ∙ sym f
+read-unique reader a b e f = record-unique (now (reader .trace)) (reader .index) a b e f

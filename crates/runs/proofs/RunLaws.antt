@@ -10,11 +10,8 @@ use lib.ListN.{length, length-set}
 use borrow.Author.Tests.{le-leb, leb-false, leb-true, lt-leb}
 use native.Mathlib.Nat.{sub-zero}
 use native.Mathlib.Omega.{arith}
-use Rattle.chip.specs.State.{passes, widths}
-use Rattle.counts.specs.declared.part.Lookup.{Lookup}
-use Rattle.counts.specs.declared.part.Lookup.the-variants.{Known, Unknown}
+use Rattle.chip.specs.State.{widths}
 use Rattle.counts.specs.declared.part.Part.{Part}
-use Rattle.counts.specs.Part.{partOf}
 use Rattle.pins.proofs.trace.Record.{the-type}
 use Rattle.pins.specs.declared.trace.Record.{Record}
 use Rattle.pins.specs.declared.trace.Record.the-variants.{Whole, Leftover, End}
@@ -25,9 +22,9 @@ use Rattle.runs.specs.declared.run.Ran.{Ran}
 use Rattle.fifo.specs.declared.sample.Outcome.{Outcome}
 use Rattle.fifo.specs.declared.sample.Outcome.the-variants.{Taken, Refused}
 use Rattle.fifo.specs.declared.sample.Sampled.{Sampled}
-use Rattle.runs.specs.Run.{Ended, Ends, Progress, acceptedAfter, atEnd, ended, folded, marksAfter, noted, roomy, runOf, stops, worked}
+use Rattle.runs.specs.Run.{Ended, Ends, Progress, acceptedAfter, atEnd, ended, folded, marksAfter, noted, roomy, stops, worked}
 use Rattle.pins.specs.Answer.{putAnswer}
-use Rattle.fifo.specs.Sample.{After, Gives, answersAfter, isDepth, numberOf, stepped}
+use Rattle.fifo.specs.Sample.{After, Gives, answerIn, answersAfter, isTaken, numberOf, stepped}
 use Rattle.fifo.specs.SampleLaws.{refused-still, step-length, step-widths}
 
 pub no-whole : (r : Record) → (tagOf the-type r ≡ 1) ⊎ (tagOf the-type r ≡ 2) → isWhole r ≡ false
@@ -43,6 +40,15 @@ answers-length (Refused number) index room = refl
 marks-length : (lenient : Bool) (outcome : Outcome) (index : ℕ) (room : List ℕ) → length (marksAfter lenient outcome index room) ≡ length room
 marks-length true outcome index room = length-set room index (numberOf outcome)
 marks-length false outcome index room = refl
+
+pub answer-noted : (outcome : Outcome) (index : ℕ) (room : List ℕ) → isTaken outcome ≡ true
+    → putAnswer room index (answerIn outcome) ≡ answersAfter outcome index room
+answer-noted (Taken answer) index room e = refl
+answer-noted (Refused number) index room e = let z : _≡_ {A = ℕ} 0 1 = cc in absurd (omega arith)
+
+pub none-noted : (outcome : Outcome) (index : ℕ) (room : List ℕ) → isTaken outcome ≡ false → room ≡ answersAfter outcome index room
+none-noted (Taken answer) index room e = let z : _≡_ {A = ℕ} 0 1 = cc in absurd (omega arith)
+none-noted (Refused number) index room e = refl
 
 accepted-most : (outcome : Outcome) (accepted index : ℕ) → accepted ≤ index → acceptedAfter outcome accepted ≤ index + 1
 accepted-most (Taken answer) accepted index h = omega arith
@@ -165,24 +171,3 @@ room-by-thirds lenient whole answers marks = ap (λ (fits : Bool). fits && (not 
 pub room-told : (lenient : Bool) (whole answers marks : ℕ) → roomy lenient whole answers marks ≡ true → whole * 3 ≤ answers
 room-told lenient whole answers marks e =
     leb-true (whole * 3) answers (and-eq-true-iff (leb (whole * 3) answers) (not lenient || leb whole marks) .0 e .0)
-
-module _ (lenient : Bool) (number : ℕ) (bytes : List ℕ) (g : Progress) {looked : Lookup} (e : looked ≡ partOf number) where
-  pub run-unknown : looked ≡ Unknown → runOf lenient number bytes g ≡ ended 1 0 g
-  unfolding runOf
-  run-unknown u = simp (← e, u)
-
-  module _ (part : Part) (k : looked ≡ Known part) where
-    abbrev pub fitting : Bool
-    fitting = isDepth part (length (g .memory)) && roomy lenient (wholeRecords bytes) (length (g .answers)) (length (g .marks))
-
-    pub run-room : fitting ≡ false → runOf lenient number bytes g ≡ ended 2 0 g
-    unfolding runOf
-    run-room f = simp (← e, k, f)
-
-    pub run-state : fitting ≡ true → passes part (g .state) ≡ false → runOf lenient number bytes g ≡ ended 3 0 g
-    unfolding runOf
-    run-state f t = simp (← e, k, f, t)
-
-    pub run-works : fitting ≡ true → passes part (g .state) ≡ true → runOf lenient number bytes g ≡ worked lenient part bytes g
-    unfolding runOf
-    run-works f t = simp (← e, k, f, t)

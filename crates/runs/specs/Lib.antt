@@ -1,3 +1,5 @@
+pub mod EndLaws
+pub mod NumberLaws
 pub mod Run
 pub mod FoldLaws
 pub mod Table

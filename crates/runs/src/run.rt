@@ -3,7 +3,7 @@ ghost use Prim.Native.Nat.{_*_, _+_, _<_, _^_, _≤_};
 ghost use Rattle.chip.specs.State.{widths};
 ghost use Rattle.runs.specs.Run.{Began, Ends, Runs, RunsLenient, acceptedAfter, marksAfter, roomy, started, stops, worked};
 ghost use Rattle.pins.specs.Answer.{putAnswer};
-ghost use Rattle.fifo.specs.Sample.{answersAfter, numberOf};
+ghost use Rattle.fifo.specs.Sample.{answerIn, answersAfter, isTaken, numberOf};
 ghost use Rattle.pins.specs.Trace as trace;
 ghost use Rattle.pins.specs.Trace.{wholeRecords};
 ghost use lib.ListN.{length};
@@ -56,28 +56,28 @@ fn begin(
 {
     let looked_up = counts::part::look_up(part);
     let Lookup::Known(known) = looked_up else {
-        return turn_away(1, state);
+        return end_at(0, 0, 1, state);
     };
     let sized = fifo::sample::is_depth(known, memory.len());
     if sized & is_roomy(lenient, trace.len() / 4, answers.len(), marks.len()) {
         if chip::state::passes_test(known, state) {
             go(lenient, known, trace, state, memory, answers, marks)
         } else {
-            turn_away(3, state)
+            end_at(0, 0, 3, state)
         }
     } else {
-        turn_away(2, state)
+        end_at(0, 0, 2, state)
     }
 }
 
-fn turn_away(number: u8, state: State) -> Ran
-    ensures { λ r. ⌜ r ≡ record { state = state; accepted = 0; index = 0; refusal = number } ⌝ }
+fn end_at(index: usize, accepted: usize, refusal: u8, state: State) -> Ran
+    ensures { λ r. ⌜ r ≡ record { state = state; accepted = accepted; index = index; refusal = refusal } ⌝ }
 {
     Ran {
         state: state,
-        accepted: 0,
-        index: 0,
-        refusal: number,
+        accepted: accepted,
+        index: index,
+        refusal: refusal,
     }
 }
 
@@ -105,24 +105,14 @@ fn go(
     loop {
         let record = pins::trace::record_at(trace, index);
         let Record::Whole(word) = record else {
-            return Ran {
-                state: s,
-                accepted: accepted,
-                index: index,
-                refusal: ending(record),
-            };
+            return end_at(index, accepted, ending(record), s);
         };
         let sampled = fifo::sample::step(part, word, s, memory);
         let outcome = sampled.outcome;
         // A refused record leaves the state as it was: the old one is not needed beside the new one.
         s = sampled.state;
         if is_stop(lenient, outcome) {
-            return Ran {
-                state: s,
-                accepted: accepted,
-                index: index,
-                refusal: number_of(outcome),
-            };
+            return end_at(index, accepted, number_of(outcome), s);
         }
         note_answer(outcome, index, answers);
         note_mark(lenient, outcome, index, marks);
@@ -145,8 +135,26 @@ fn note_answer(outcome: Outcome, index: usize, answers: &mut [u8])
     requires { ⌜ index * 3 + 2 < length (now answers) ⌝ }
     ensures { λ _. ⌜ now (answers .exit) ≡ answersAfter outcome index (now (answers .entry)) ⌝ }
 {
-    if let Outcome::Taken(answer) = outcome {
-        put_answer(answers, index, answer);
+    if is_taken(outcome) {
+        put_answer(answers, index, answer_of(outcome));
+    }
+}
+
+fn is_taken(outcome: Outcome) -> bool
+    ensures { λ r. ⌜ r ≡ isTaken outcome ⌝ }
+{
+    match outcome {
+        Outcome::Taken(_) => true,
+        Outcome::Refused(_) => false,
+    }
+}
+
+fn answer_of(outcome: Outcome) -> u32
+    ensures { λ r. ⌜ r ≡ answerIn outcome ⌝ }
+{
+    match outcome {
+        Outcome::Taken(answer) => answer,
+        Outcome::Refused(_) => 0,
     }
 }
 

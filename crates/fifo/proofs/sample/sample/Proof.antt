@@ -1,25 +1,16 @@
-use Prim.Native.Nat.{ℕ}
-use mathlib.Core.List.{List}
 use denote.Ref.{now}
-use mathlib.Core.Path.{_≡_, sym, _∙_}
+use mathlib.Core.Path.{sym, _∙_}
 use borrow.Author.Needs.{needs}
 use Rattle.chip.specs.Widths.{tested-widths}
-use Rattle.chip.specs.declared.state.State.{State}
-use Rattle.fifo.specs.declared.sample.Sampled.{Sampled}
-use Rattle.fifo.specs.Sample.{After, Gives, Samples, sampled}
-use Rattle.fifo.proofs.Laws.{gives-by, gives-refusal, sample-length, sample-state, sample-steps, sample-unknown}
+use Rattle.fifo.proofs.Laws.{gives-refusal, sample-length, sample-state, sample-steps, sample-unknown, samples-by}
 use Rattle.fifo.proofs.sample.sample.Statement.{statement}
 use Rattle.fifo.proofs.sample.sample.Tie as tie
-
-promised : {number x : ℕ} {s : State} {memory after : List ℕ} {r : Sampled} {b : After} → sampled number x s memory ≡ b → Gives b r after
-    → Samples number x s memory r after
-promised e g = let h = gives-by e g in search needs
 
 returns : tie.Need-returns
 returns c =
     let looked = c .before .before .before in
     let a = looked .before .before .args in
-    promised (sample-unknown (a .part) (a .«record») (a .state) (now (a .memory)) (looked .look-up .ensures) (c .before .enum-told .given .1))
+    samples-by (sample-unknown (a .part) (a .«record») (a .state) (now (a .memory)) (looked .look-up .ensures) (c .before .enum-told .given .1))
     (gives-refusal (c .turn-away .ensures))
 
 step-requires : tie.Need-step-requires
@@ -35,10 +26,10 @@ returns-2 c =
     let known = sized .before .before in
     let looked = known .before .before in
     let a = looked .before .before .args in
-    promised
+    samples-by
     (sample-steps (a .part) (a .«record») (a .state) (now (a .memory)) (looked .look-up .ensures) _ (known .looked-up .given .1)
     (sym (sized .is-depth .ensures) ∙ tested .before .if1 .taken) (sym (tested .passes-test .ensures) ∙ c .before .before .before .before .if2 .taken))
-    (c .before .before .step .ensures)
+    (c .before .before .step .ensures .gives)
 
 returns-3 : tie.Need-returns-3
 returns-3 c =
@@ -47,7 +38,7 @@ returns-3 c =
     let known = sized .before .before in
     let looked = known .before .before in
     let a = looked .before .before .args in
-    promised
+    samples-by
     (sample-state (a .part) (a .«record») (a .state) (now (a .memory)) (looked .look-up .ensures) _ (known .looked-up .given .1)
     (sym (sized .is-depth .ensures) ∙ tested .before .if1 .taken) (sym (tested .passes-test .ensures) ∙ c .before .if2 .left))
     (gives-refusal (c .turn-away2 .ensures))
@@ -58,7 +49,7 @@ returns-4 c =
     let known = sized .before .before in
     let looked = known .before .before in
     let a = looked .before .before .args in
-    promised
+    samples-by
     (sample-length (a .part) (a .«record») (a .state) (now (a .memory)) (looked .look-up .ensures) _ (known .looked-up .given .1)
     (sym (sized .is-depth .ensures) ∙ c .before .if1 .left))
     (gives-refusal (c .turn-away3 .ensures))

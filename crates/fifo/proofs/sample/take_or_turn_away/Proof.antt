@@ -1,6 +1,6 @@
 use denote.Ref.{now}
 use borrow.Author.Needs.{needs}
-use Rattle.fifo.proofs.Laws.{gives-by, gives-refusal, stepped-refuses, stepped-takes}
+use Rattle.fifo.proofs.Laws.{gives-refusal, stepped-refuses, stepped-takes, steps-by}
 use Rattle.fifo.proofs.sample.take_or_turn_away.Statement.{statement}
 use Rattle.fifo.proofs.sample.take_or_turn_away.Tie as tie
 
@@ -9,7 +9,7 @@ returns c =
     let decoded = c .before .before .before .before in
     let number = decoded .before .before in
     let a = number .before .before .args in
-    gives-by
+    steps-by
     (stepped-takes (a .part) (a .«record») (a .state) (now (a .memory)) (number .refuse-record .ensures) (decoded .decode .ensures)
     (decoded .before .if1 .taken))
     (c .before .before .take .ensures)
@@ -18,7 +18,7 @@ returns-2 : tie.Need-returns-2
 returns-2 c =
     let number = c .before .before in
     let a = number .before .before .args in
-    gives-by
+    steps-by
     (stepped-refuses (a .part) (a .«record») (a .state) (now (a .memory)) (number .refuse-record .ensures) (c .before .if1 .left))
     (gives-refusal (c .turn-away .ensures))
 

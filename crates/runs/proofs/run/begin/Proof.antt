@@ -3,8 +3,9 @@ use mathlib.Core.Bool.{and-eq-true-iff}
 use denote.Ref.{now}
 use borrow.Author.Needs.{needs}
 use Rattle.chip.specs.Widths.{tested-widths}
+use Rattle.runs.specs.NumberLaws.{run-room, run-state, run-unknown, run-works}
 use Rattle.runs.specs.Run.{started}
-use Rattle.runs.proofs.RunLaws.{ends-by, room-told, run-room, run-state, run-unknown, run-works, turned-away}
+use Rattle.runs.proofs.RunLaws.{ends-by, room-told, turned-away}
 use Rattle.runs.proofs.run.begin.Statement.{statement}
 use Rattle.runs.proofs.run.begin.Tie as tie
 
@@ -14,8 +15,8 @@ returns c =
     let a = looked .before .before .before .before .before .args in
     turned-away
     (run-unknown (a .lenient) (a .part) (now (a .trace)) (started (a .state) (now (a .memory)) (now (a .answers)) (now (a .marks)))
-    (looked .look-up .ensures) (c .before .enum-told .given .1))
-    (c .turn-away .ensures)
+    (sym (looked .look-up .ensures) ∙ c .before .enum-told .given .1))
+    (c .end-at .ensures)
 
 go-requires : tie.Need-go-requires
 go-requires c κs =
@@ -38,7 +39,7 @@ returns-2 c =
     let a = looked .before .before .before .before .before .args in
     ends-by
     (run-works (a .lenient) (a .part) (now (a .trace)) (started (a .state) (now (a .memory)) (now (a .answers)) (now (a .marks)))
-    (looked .look-up .ensures) _ (known .looked-up .given .1)
+    _ (sym (looked .look-up .ensures) ∙ known .looked-up .given .1)
     (sym (cc (sized .is-depth .ensures, roomy .is-roomy .ensures)) ∙ tested .before .if1 .taken)
     (sym (tested .passes-test .ensures) ∙ work .before .before .before .before .if2 .taken))
     (work .go .ensures)
@@ -53,10 +54,10 @@ returns-3 c =
     let a = looked .before .before .before .before .before .args in
     turned-away
     (run-state (a .lenient) (a .part) (now (a .trace)) (started (a .state) (now (a .memory)) (now (a .answers)) (now (a .marks)))
-    (looked .look-up .ensures) _ (known .looked-up .given .1)
+    _ (sym (looked .look-up .ensures) ∙ known .looked-up .given .1)
     (sym (cc (sized .is-depth .ensures, roomy .is-roomy .ensures)) ∙ tested .before .if1 .taken)
     (sym (tested .passes-test .ensures) ∙ c .before .if2 .left))
-    (c .turn-away2 .ensures)
+    (c .end-at2 .ensures)
 
 returns-4 : tie.Need-returns-4
 returns-4 c =
@@ -67,9 +68,9 @@ returns-4 c =
     let a = looked .before .before .before .before .before .args in
     turned-away
     (run-room (a .lenient) (a .part) (now (a .trace)) (started (a .state) (now (a .memory)) (now (a .answers)) (now (a .marks)))
-    (looked .look-up .ensures) _ (known .looked-up .given .1)
+    _ (sym (looked .look-up .ensures) ∙ known .looked-up .given .1)
     (sym (cc (sized .is-depth .ensures, roomy .is-roomy .ensures)) ∙ c .before .if1 .left))
-    (c .turn-away3 .ensures)
+    (c .end-at3 .ensures)
 
 pub begin-spec : {M : Type 1} → statement M
 begin-spec =

@@ -26,20 +26,36 @@ loop-holds c =
 
 returns : tie.Need-returns Inv-loop μ-loop
 returns c =
-    let told = c .before .before in
-    ended-now (told .before .loop .inv) (told .record-at .ensures) (no-whole (told .record-at .result) (c .before .match .keys2)) (c .ending .ensures)
+    let ending = c .before in
+    let told = ending .before .before in
+    rw (c .end-at .ensures)
+    (ended-now (told .before .loop .inv) (told .record-at .ensures .result) (no-whole (told .record-at .result) (ending .before .match .keys2)) (ending .ending .ensures))
 
 step-requires : tie.Need-step-requires Inv-loop μ-loop
 step-requires c κs = c .before .before .before .before .before .loop .inv .fits
 
 returns-2 : tie.Need-returns-2 Inv-loop μ-loop
 returns-2 c =
-    let stop = c .before .before in
+    let number = c .before in
+    let stop = number .before .before in
     let stepped = stop .before .before .before .before in
     let whole = stepped .before .before .before in
     let told = whole .before .before in
-    stopped-now (told .before .loop .inv) (told .record-at .ensures) (whole .«record» .given .1) (stepped .step .ensures) (stop .is-stop .ensures)
-    (c .before .if1 .taken) (c .number-of .ensures)
+    rw (c .end-at2 .ensures)
+    (stopped-now (told .before .loop .inv) (told .record-at .ensures .result) (whole .«record» .given .1) (stepped .step .ensures .gives) (stop .is-stop .ensures)
+    (number .before .if1 .taken) (number .number-of .ensures))
+
+same-length-4 : tie.Need-same-length-4 Inv-loop μ-loop
+same-length-4 c =
+    let stepped = c .before .before .before .before .before .before .before in
+    let loop = stepped .before .before .before .before .before .before in
+    search (needs, stepped .step .ok, loop .loop .inv .words)
+
+same-length-5 : tie.Need-same-length-5 Inv-loop μ-loop
+same-length-5 c = c .before .before .before .before .before .before .before .before .before .before .before .before .before .loop .inv .room
+
+same-length-6 : tie.Need-same-length-6 Inv-loop μ-loop
+same-length-6 c = c .before .before .before .before .before .before .before .before .before .before .before .before .before .loop .inv .marked
 
 note-answer-requires : tie.Need-note-answer-requires Inv-loop μ-loop
 note-answer-requires c κs =
@@ -48,7 +64,7 @@ note-answer-requires c κs =
     let loop = told .before in
     omega (
       arith,
-      whole-below _ _ (sym (told .record-at .ensures) ∙ whole .«record» .given .1),
+      whole-below _ _ (sym (told .record-at .ensures .result) ∙ whole .«record» .given .1),
       loop .loop .inv .room,
       loop .before .before .before .before .before .pre .1,
     )
@@ -58,21 +74,21 @@ count-requires c κs =
     let whole = c .before .before .before .before .before .before .before .before .before .before .before .before .before .before .before .before in
     let told = whole .before .before in
     let loop = told .before in
-    omega (arith, whole-below _ _ (sym (told .record-at .ensures) ∙ whole .«record» .given .1), loop .loop .inv .counted, loop .before .before .before .before .before .good)
+    omega (arith, whole-below _ _ (sym (told .record-at .ensures .result) ∙ whole .«record» .given .1), loop .loop .inv .counted, loop .before .before .before .before .before .good)
 
 add-index : tie.Need-add-index Inv-loop μ-loop
 add-index c =
     let whole = c .before .before .before .before .before .before .before .before .before .before .before .before .before .before .before .before .before in
     let told = whole .before .before in
     let loop = told .before in
-    omega (arith, whole-below _ _ (sym (told .record-at .ensures) ∙ whole .«record» .given .1), loop .before .before .before .before .before .good)
+    omega (arith, whole-below _ _ (sym (told .record-at .ensures .result) ∙ whole .«record» .given .1), loop .before .before .before .before .before .good)
 
 loop-less : tie.Need-loop-less Inv-loop μ-loop
 loop-less c =
     let whole = c .before .before .before .before .before .before .before .before .before .before .before .before .before .before .before .before .before in
     let told = whole .before .before in
     let loop = told .before in
-    omega (arith, whole-below _ _ (sym (told .record-at .ensures) ∙ whole .«record» .given .1))
+    omega (arith, whole-below _ _ (sym (told .record-at .ensures .result) ∙ whole .«record» .given .1))
 
 loop-again : tie.Need-loop-again Inv-loop μ-loop
 loop-again c =
@@ -83,7 +99,7 @@ loop-again c =
     let stepped = stop .before .before .before .before in
     let whole = stepped .before .before .before in
     let told = whole .before .before in
-    turned-now (told .before .loop .inv) (told .record-at .ensures) (whole .«record» .given .1) (stepped .step .ensures) (stop .is-stop .ensures)
+    turned-now (told .before .loop .inv) (told .record-at .ensures .result) (whole .«record» .given .1) (stepped .step .ensures .gives) (stop .is-stop .ensures)
     (goes-on .if1 .left) (answer .note-answer .ensures) (mark .note-mark .ensures) (c .count .ensures)
 
 pub go-spec : {M : Type 1} → statement M
@@ -96,6 +112,7 @@ go-spec =
     (λ c κs. search needs)
     (λ c. search needs)
     (λ c κs. search needs)
+    (λ c κs. search needs)
     (λ c. search needs)
     (λ c. search needs)
     (λ c. search needs)
@@ -103,9 +120,10 @@ go-spec =
     step-requires
     (λ c κs. search needs)
     (λ c κs. search needs)
-    (λ c. search needs)
-    (λ c. search needs)
-    (λ c. search needs)
+    (λ c κs. search needs)
+    same-length-4
+    same-length-5
+    same-length-6
     returns-2
     note-answer-requires
     (λ c κs. search needs)
