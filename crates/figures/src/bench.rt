@@ -6,20 +6,14 @@ use fifo::sample::Outcome;
 use fifo::sample::Sampled;
 
 // From power-up. The names stand in the order of the rows that are shown, each with an end of line.
-pub(crate) fn play(
-    part: u32,
-    fwft: bool,
-    scene: &[u64],
-    names: &[u8],
-    memory: &mut [u32],
-) -> State {
+pub(crate) fn play(part: u32, fwft: bool, scene: &[u64], names: &[u8], memory: &mut [u32]) {
     let mut now = power_up();
     let mut words: u32 = 0;
     let mut name: usize = 0;
     let mut left = scene.len();
     while left > 0 {
         let row = scene[scene.len() - left];
-        let times = rows::times_of(row, part, fwft);
+        let times = rows::times_of(row, part, fwft, words);
         now = step(
             part,
             now,
@@ -30,10 +24,17 @@ pub(crate) fn play(
         );
         words = rows::words_after(row, words, times);
         let outcome = now.outcome;
-        name = print::print_row(part, fwft, row, words, names, name, outcome);
+        name = print::print_row(
+            rows::part_of(row, part),
+            fwft,
+            row,
+            words,
+            names,
+            name,
+            outcome,
+        );
         left -= 1;
     }
-    now.state
 }
 
 fn power_up() -> Sampled {
@@ -55,28 +56,23 @@ fn step(
     let mut half = rows::first_half(row);
     let end = std::num::wrapping_add_u32(times, times);
     while half < end {
-        now = sample(part, rows::half_step(record, half), now, memory);
+        now = sample(part, row, rows::half_step(record, half), now, memory);
         half += 1;
     }
     now
 }
 
-// A sample's own promise is not wanted where several follow each other.
-fn sample(part: u32, word: u32, before: Sampled, memory: &mut [u32]) -> Sampled {
-    let state = before.state;
-    fifo::sample::sample(part, word, state, memory)
+fn sample(part: u32, row: u64, word: u32, before: Sampled, memory: &mut [u32]) -> Sampled {
+    let number = rows::part_of(row, part);
+    let state = with_output(before.state, row);
+    let words = rows::memory_of(row, memory.len());
+    fifo::sample::sample(number, word, state, &mut memory[..words])
 }
 
-// One sample with what a caller may hand in, and its line.
-pub(crate) fn show_sample(
-    part: u32,
-    word: u32,
-    state: State,
-    name: &[u8],
-    memory: &mut [u32],
-) -> State {
-    let sampled = fifo::sample::sample(part, word, state, memory);
-    let outcome = sampled.outcome;
-    print::print_line(part, false, name, outcome);
-    sampled.state
+fn with_output(state: State, row: u64) -> State {
+    let mut with = state;
+    let mut read = state.read;
+    read.output = rows::output_of(row, read.output);
+    with.read = read;
+    with
 }

@@ -2,18 +2,18 @@
 use super::bench;
 use super::rows;
 
-const ONE: u64 = rows::RAW + rows::SHOWN + 1;
+const LISTED: u64 = rows::RAW + rows::SHOWN + 1;
 
 const LISTING: [u64; 9] = [
-    0x4D980000 * rows::PIN + ONE,
-    0xC7980041 * rows::PIN + ONE,
-    0xE7980041 * rows::PIN + ONE,
-    0xCF980000 * rows::PIN + ONE,
-    0xDF980000 * rows::PIN + ONE,
-    0xCF980000 * rows::PIN + ONE,
-    0xDF980000 * rows::PIN + ONE,
-    0xCB980000 * rows::PIN + ONE,
-    0xDB980000 * rows::PIN + ONE,
+    0x4D980000 * rows::PIN + LISTED,
+    0xC7980041 * rows::PIN + LISTED,
+    0xE7980041 * rows::PIN + LISTED,
+    0xCF980000 * rows::PIN + LISTED,
+    0xDF980000 * rows::PIN + LISTED,
+    0xCF980000 * rows::PIN + LISTED,
+    0xDF980000 * rows::PIN + LISTED,
+    0xCB980000 * rows::PIN + LISTED,
+    0xDB980000 * rows::PIN + LISTED,
 ];
 
 // The same nine records made from the pins' names: the other figures stand on these steps.

@@ -31,4 +31,5 @@ fn print_mode(part: u32, fwft: bool, memory: &mut [u32]) {
     retransmits::print_retransmits(part, fwft, memory);
     outputs::print_outputs(part, fwft, memory);
     width::print_past_width(part, fwft, memory);
+    width::print_rounds(part, fwft, memory);
 }

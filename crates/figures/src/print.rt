@@ -27,12 +27,6 @@ pub(crate) fn print_row(
     end
 }
 
-pub(crate) fn print_line(part: u32, fwft: bool, name: &[u8], outcome: Outcome) {
-    print_start(part, fwft);
-    print_text(name);
-    print_outcome(outcome);
-}
-
 // The records accepted, the index at which the run ended, and the refusal.
 pub(crate) fn print_run(part: u32, name: &[u8], accepted: usize, index: usize, refusal: u8) {
     print_number(part);

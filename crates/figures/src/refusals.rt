@@ -2,20 +2,33 @@
 // refused one must not have moved RCLK's last level either.
 use super::bench;
 use super::rows;
-use chip::state::State;
 
 const WORD: u64 = rows::PUT + 0x41 * rows::PIN;
 
-const ONE: u64 = rows::RAW + rows::SHOWN;
+const TRIED: u64 = rows::RAW + rows::SHOWN;
 
-const NEXT: u64 = rows::READ + 1 + ONE;
+const NEXT: u64 = rows::READ + 1 + TRIED;
 
-// A word that the read side sees, and both clocks LOW: a rise of RCLK can read it.
-const WAITING: [u64; 4] = [rows::RESET, WORD, rows::SETTLE, rows::IDLE + 1];
-
-const RISING_READ: u32 = 0xDB980000;
-
-const BIT_18: [u64; 6] = [
+// What the caller hands in. Before each a word that the read side sees, and both clocks LOW: a rise of RCLK can read it.
+const BY_CALL: [u64; 24] = [
+    rows::RESET,
+    WORD,
+    rows::SETTLE,
+    rows::IDLE + 1,
+    NEXT + rows::OTHER_PART,
+    NEXT,
+    rows::RESET,
+    WORD,
+    rows::SETTLE,
+    rows::IDLE + 1,
+    NEXT + rows::SHORT_MEMORY,
+    NEXT,
+    rows::RESET,
+    WORD,
+    rows::SETTLE,
+    rows::IDLE + 1,
+    NEXT + rows::WIDE_OUTPUT,
+    NEXT + rows::MENDED_OUTPUT,
     rows::RESET,
     WORD,
     rows::SETTLE,
@@ -31,22 +44,22 @@ const BY_PINS: [u64; 21] = [
     WORD,
     rows::SETTLE,
     rows::IDLE + 1,
-    rows::TWO_ENABLES + ONE,
+    rows::TWO_ENABLES + TRIED,
     NEXT,
     rows::RESET,
     WORD,
     rows::SETTLE,
     rows::IDLE + 1,
-    rows::SERIAL + 1 + ONE,
+    rows::ZERO + 1 + TRIED,
     NEXT,
     rows::RESET,
     WORD,
     rows::SETTLE,
     rows::IDLE + 1,
-    rows::RETRANSMIT_AND_READ + ONE,
+    rows::RETRANSMIT_AND_READ + TRIED,
     NEXT,
     rows::RESET,
-    rows::RETRANSMIT + ONE,
+    rows::RETRANSMIT + TRIED,
     NEXT,
 ];
 
@@ -57,7 +70,7 @@ const NOT_SEEN: [u64; 13] = [
     rows::SETTLE,
     rows::RETRANSMIT,
     rows::IDLE + 1,
-    WORD + ONE,
+    WORD + TRIED,
     NEXT,
     rows::RESET,
     WORD,
@@ -68,47 +81,16 @@ const NOT_SEEN: [u64; 13] = [
 ];
 
 pub(crate) fn print_refusals(part: u32, memory: &mut [u32]) {
-    let waiting = bench::play(part, false, &WAITING, b"", memory);
-    print_wrong_part(part, waiting, memory);
-    print_wrong_memory(part, waiting, memory);
-    print_wide_register(part, waiting, memory);
-    print_records(part, memory);
+    print_calls(part, memory);
     print_pins(part, memory);
 }
 
-fn print_wrong_part(part: u32, waiting: State, memory: &mut [u32]) {
-    let after = bench::show_sample(256, RISING_READ, waiting, b"refusal-1", memory);
-    bench::show_sample(part, RISING_READ, after, b"next-after-refusal-1", memory);
-}
-
-fn print_wrong_memory(part: u32, waiting: State, memory: &mut [u32]) {
-    let mut short = [0u32; 8191];
-    let after = bench::show_sample(part, RISING_READ, waiting, b"refusal-2", &mut short);
-    bench::show_sample(part, RISING_READ, after, b"next-after-refusal-2", memory);
-}
-
-// The register is put right again before the next sample.
-fn print_wide_register(part: u32, waiting: State, memory: &mut [u32]) {
-    let wide = with_output(waiting, 1 << 18);
-    let after = bench::show_sample(part, RISING_READ, wide, b"refusal-3", memory);
-    let mended = with_output(after, 0);
-    bench::show_sample(part, RISING_READ, mended, b"next-after-refusal-3", memory);
-}
-
-fn with_output(state: State, output: u32) -> State {
-    let mut with = state;
-    let mut read = state.read;
-    read.output = output;
-    with.read = read;
-    with
-}
-
-fn print_records(part: u32, memory: &mut [u32]) {
+fn print_calls(part: u32, memory: &mut [u32]) {
     bench::play(
         part,
         false,
-        &BIT_18,
-        b"refusal-4\nnext-after-refusal-4\n",
+        &BY_CALL,
+        b"refusal-1\nnext-after-refusal-1\nrefusal-2\nnext-after-refusal-2\nrefusal-3\nnext-after-refusal-3\nrefusal-4\nnext-after-refusal-4\n",
         memory,
     );
     bench::play(
