@@ -43,8 +43,9 @@ const ROUND_HALF: [u64; 7] = [
     rows::READ + 1 + rows::SHOWN,
 ];
 
-// Three words short of full, since a turn is seen late. Then PAF and FF change both ways where the write count goes round.
-const ROUND_FULL: [u64; 14] = [
+// Three words short of full, since a turn is seen late. Then PAF and FF change both ways where the write count goes round,
+// and again where the read count does.
+const ROUND_FULL: [u64; 22] = [
     rows::RESET,
     rows::LOAD + 1 * rows::PIN,
     rows::LOAD + 2 * rows::PIN,
@@ -58,6 +59,14 @@ const ROUND_FULL: [u64; 14] = [
     rows::RUN_WCLK + 1 + rows::SHOWN,
     rows::RUN_WCLK + 1 + rows::SHOWN,
     rows::READ + 2,
+    rows::RUN_WCLK + 2 + rows::SHOWN,
+    rows::TURN + rows::BELOW_DEPTH + 6,
+    rows::SETTLE,
+    rows::WRITE + 3 + rows::SHOWN,
+    rows::READ + 2,
+    rows::RUN_WCLK + 1 + rows::SHOWN,
+    rows::RUN_WCLK + 1 + rows::SHOWN,
+    rows::READ + 1,
     rows::RUN_WCLK + 2 + rows::SHOWN,
 ];
 
@@ -90,7 +99,7 @@ pub(crate) fn print_rounds(part: u32, fwft: bool, memory: &mut [u32]) {
         part,
         fwft,
         &ROUND_FULL,
-        b"round-three-short\nround-two-short\nround-full\nround-full-and-read\nround-first-rise\nround-second-rise\nround-three-short-again\n",
+        b"round-three-short\nround-two-short\nround-full\nround-full-and-read\nround-first-rise\nround-second-rise\nround-three-short-again\nround-full-again\nround-first-rise-again\nround-second-rise-again\nround-three-short-at-last\n",
         memory,
     );
 }
