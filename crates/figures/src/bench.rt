@@ -1,147 +1,78 @@
-// One part on the bench, clocked by hand. Each step lowers both clocks and then raises its own: its outcome is that of
-// the rise.
-ghost use Prim.Native.Nat.{_≤_};
-use super::record;
-use super::record::Mode;
+// One part on the bench, clocked by the rows of a scene.
+use super::print;
+use super::rows;
 use chip::state::State;
 use fifo::sample::Outcome;
-use pins::record::Pins;
+use fifo::sample::Sampled;
 
-// `mode` is the one that the last reset selected; `outcome` is that of the latest sample.
-pub(crate) struct Bench {
-    pub part: u32,
-    pub mode: Mode,
-    pub state: State,
-    pub outcome: Outcome,
-}
-
-pub(crate) fn take_record(
-    part: u32,
-    mode: Mode,
-    word: u32,
-    state: State,
-    memory: &mut [u32],
-) -> Bench {
-    let sampled = fifo::sample::sample(part, word, state, memory);
-    let next = sampled.state;
-    let outcome = sampled.outcome;
-    Bench {
-        part: part,
-        mode: mode,
-        state: next,
-        outcome: outcome,
-    }
-}
-
-pub(crate) fn set_pins(bench: Bench, pins: Pins, memory: &mut [u32]) -> Bench {
-    let mode = bench.mode;
-    let state = bench.state;
-    take_record(bench.part, mode, record::encode(pins), state, memory)
-}
-
-pub(crate) fn reset(part: u32, mode: Mode, memory: &mut [u32]) -> Bench {
-    let word = record::encode(record::reset(mode));
-    take_record(part, mode, word, chip::reset::power_up(), memory)
-}
-
-pub(crate) fn write_word(bench: Bench, word: u32, memory: &mut [u32]) -> Bench {
-    raise_wclk(bench, record::write(word), memory)
-}
-
-pub(crate) fn load_offset(bench: Bench, offset: u32, memory: &mut [u32]) -> Bench {
-    raise_wclk(bench, record::load_offset(offset), memory)
-}
-
-pub(crate) fn read_word(bench: Bench, memory: &mut [u32]) -> Bench {
-    raise_rclk(bench, record::read(), memory)
-}
-
-pub(crate) fn idle_read_clock(bench: Bench, memory: &mut [u32]) -> Bench {
-    raise_rclk(bench, record::idle(), memory)
-}
-
-pub(crate) fn read_offset(bench: Bench, memory: &mut [u32]) -> Bench {
-    raise_rclk(bench, record::read_offset(), memory)
-}
-
-pub(crate) fn retransmit(bench: Bench, memory: &mut [u32]) -> Bench {
-    raise_rclk(bench, record::retransmit(), memory)
-}
-
-pub(crate) fn lower_clocks(bench: Bench, memory: &mut [u32]) -> Bench {
-    set_pins(bench, record::idle(), memory)
-}
-
-fn raise_wclk(bench: Bench, pins: Pins, memory: &mut [u32]) -> Bench {
-    raise_clock(bench, pins, record::with_wclk_high(pins), memory)
-}
-
-fn raise_rclk(bench: Bench, pins: Pins, memory: &mut [u32]) -> Bench {
-    raise_clock(bench, pins, record::with_rclk_high(pins), memory)
-}
-
-fn raise_clock(bench: Bench, low: Pins, high: Pins, memory: &mut [u32]) -> Bench {
-    let lowered = set_pins(bench, low, memory);
-    set_pins(lowered, high, memory)
-}
-
-pub(crate) fn run_write_clock(bench: Bench, rises: u32, memory: &mut [u32]) -> Bench {
-    let low = record::idle();
-    run_clock(bench, low, record::with_wclk_high(low), rises, memory)
-}
-
-pub(crate) fn run_read_clock(bench: Bench, rises: u32, memory: &mut [u32]) -> Bench {
-    let low = record::idle();
-    run_clock(bench, low, record::with_rclk_high(low), rises, memory)
-}
-
-fn run_clock(bench: Bench, low: Pins, high: Pins, rises: u32, memory: &mut [u32]) -> Bench {
-    let mut now = bench;
-    let mut left = rises;
+// From power-up. The names stand in the order of the rows that are shown, each with an end of line.
+pub(crate) fn play(part: u32, fwft: bool, scene: &[u64], names: &[u8], memory: &mut [u32]) {
+    let mut now = power_up();
+    let mut words: u32 = 0;
+    let mut name: usize = 0;
+    let mut left = scene.len();
     while left > 0 {
+        let row = scene[scene.len() - left];
+        let times = rows::times_of(row, part, fwft, words);
+        now = step(
+            part,
+            now,
+            row,
+            rows::record_of(row, fwft, words),
+            times,
+            memory,
+        );
+        words = rows::words_after(row, words, times);
+        let outcome = now.outcome;
+        name = print::print_row(
+            rows::part_of(row, part),
+            fwft,
+            row,
+            words,
+            names,
+            name,
+            outcome,
+        );
         left -= 1;
-        now = raise_clock(now, low, high, memory);
+    }
+}
+
+fn power_up() -> Sampled {
+    Sampled {
+        outcome: Outcome::Refused(0),
+        state: chip::reset::power_up(),
+    }
+}
+
+fn step(
+    part: u32,
+    before: Sampled,
+    row: u64,
+    record: u32,
+    times: u32,
+    memory: &mut [u32],
+) -> Sampled {
+    let mut now = before;
+    let mut half = rows::first_half(row);
+    let end = std::num::wrapping_add_u32(times, times);
+    while half < end {
+        now = sample(part, row, rows::half_step(record, half), now, memory);
+        half += 1;
     }
     now
 }
 
-// Until neither side's view changes any more: the third RCLK rise delivers a word in FWFT, and the write side sees that
-// with its second rise.
-pub(crate) fn settle(bench: Bench, memory: &mut [u32]) -> Bench {
-    let read = run_read_clock(bench, 3, memory);
-    run_write_clock(read, 2, memory)
+fn sample(part: u32, row: u64, word: u32, before: Sampled, memory: &mut [u32]) -> Sampled {
+    let number = rows::part_of(row, part);
+    let state = with_output(before.state, row);
+    let words = rows::memory_of(row, memory.len());
+    fifo::sample::sample(number, word, state, &mut memory[..words])
 }
 
-// Each word carries its number, from 1 on.
-pub(crate) fn write_words(bench: Bench, words: u32, memory: &mut [u32]) -> Bench {
-    let mut now = bench;
-    let mut done: u32 = 0;
-    while done < words {
-        done += 1;
-        now = write_word(now, done, memory);
-    }
-    now
-}
-
-pub(crate) fn fill(part: u32, mode: Mode, words: u32, memory: &mut [u32]) -> Bench {
-    let empty = reset(part, mode, memory);
-    let written = write_words(empty, words, memory);
-    settle(written, memory)
-}
-
-// Parts and paper authority.
-pub(crate) fn depth(part: u32) -> u32
-    ensures { λ r. ⌜ (8192 ≤ r) × (r ≤ 16384) ⌝ }
-{
-    if part == 255 { 8192 } else { 16384 }
-}
-
-// In FWFT the output register holds one word beside the memory (the two sides, at HF).
-pub(crate) fn words_beside(mode: Mode) -> u32
-    ensures { λ r. ⌜ r ≤ 1 ⌝ }
-{
-    match mode {
-        Mode::Standard => 0,
-        Mode::Fwft => 1,
-    }
+fn with_output(state: State, row: u64) -> State {
+    let mut with = state;
+    let mut read = state.read;
+    read.output = rows::output_of(row, read.output);
+    with.read = read;
+    with
 }

@@ -1,39 +1,52 @@
-// Bench figures, the part headed More: the flags at their limits, with offsets of 127.
-ghost use Prim.Native.Nat.{_≤_};
+// Bench figures, the part headed More: the flags at their limits, with offsets of 127. Both sides of a limit are shown, so
+// many words in memory and one more.
 use super::bench;
-use super::print;
-use super::record::Mode;
+use super::rows;
 
-const OFFSET: u32 = 127;
+const LIMITS: [u64; 19] = [
+    rows::RESET + rows::SHOWN,
+    rows::RESET,
+    rows::WRITE + rows::HALF + rows::BESIDE,
+    rows::SETTLE + rows::NUMBERED,
+    rows::RESET,
+    rows::WRITE + rows::HALF + rows::BESIDE + 1,
+    rows::SETTLE + rows::NUMBERED,
+    rows::RESET,
+    rows::WRITE + rows::BELOW_DEPTH + rows::BESIDE + 128,
+    rows::SETTLE + rows::NUMBERED,
+    rows::RESET,
+    rows::WRITE + rows::BELOW_DEPTH + rows::BESIDE + 127,
+    rows::SETTLE + rows::NUMBERED,
+    rows::RESET,
+    rows::WRITE + rows::BESIDE + 127,
+    rows::SETTLE + rows::NUMBERED,
+    rows::RESET,
+    rows::WRITE + rows::BESIDE + 128,
+    rows::SETTLE + rows::NUMBERED,
+];
 
-pub(crate) fn print_reset(part: u32, mode: Mode, memory: &mut [u32]) {
-    print::print_case(bench::reset(part, mode, memory), b"reset");
-}
+const FULL: [u64; 3] = [
+    rows::RESET,
+    rows::WRITE + rows::BELOW_DEPTH + rows::SHOWN,
+    rows::RUN_RCLK + 1000 + rows::SHOWN,
+];
 
-pub(crate) fn print_limits(part: u32, mode: Mode, memory: &mut [u32]) {
-    let depth = bench::depth(part);
-    print_limit(part, mode, b"hf", depth / 2, memory);
-    print_limit(part, mode, b"paf", depth - OFFSET - 1, memory);
-    print_limit(part, mode, b"pae", OFFSET, memory);
-}
-
-// Both sides of a limit: this many words in memory, and one more.
-fn print_limit(part: u32, mode: Mode, name: &[u8], words: u32, memory: &mut [u32])
-    requires { ⌜ words ≤ 16384 ⌝ }
-{
-    let below = words + bench::words_beside(mode);
-    print_fill(part, mode, name, below, memory);
-    print_fill(part, mode, name, below + 1, memory);
-}
-
-fn print_fill(part: u32, mode: Mode, name: &[u8], words: u32, memory: &mut [u32]) {
-    print::print_numbered(bench::fill(part, mode, words, memory), name, words);
+pub(crate) fn print_limits(part: u32, fwft: bool, memory: &mut [u32]) {
+    bench::play(
+        part,
+        fwft,
+        &LIMITS,
+        b"reset\nhf\nhf\npaf\npaf\npae\npae\n",
+        memory,
+    );
 }
 
 pub(crate) fn print_full(part: u32, memory: &mut [u32]) {
-    let empty = bench::reset(part, Mode::Standard, memory);
-    let full = bench::write_words(empty, bench::depth(part), memory);
-    print::print_case(full, b"full-rclk-still");
-    let seen = bench::run_read_clock(full, 1000, memory);
-    print::print_case(seen, b"full-rclk-running");
+    bench::play(
+        part,
+        false,
+        &FULL,
+        b"full-rclk-still\nfull-rclk-running\n",
+        memory,
+    );
 }

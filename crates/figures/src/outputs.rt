@@ -1,55 +1,63 @@
 // Q: not driven, and showing an offset (Trace sample, Offsets).
 use super::bench;
-use super::bench::Bench;
-use super::print;
-use super::record;
-use super::record::Mode;
+use super::rows;
 
-const WORD: u32 = 0x41;
+// The word comes into the output register: in FWFT it falls through, in Standard it is read.
+const OUTPUTS: [u64; 11] = [
+    rows::RESET,
+    rows::PUT + 0x41 * rows::PIN,
+    rows::SETTLE,
+    rows::READ + rows::STANDARD + 1 + rows::SHOWN,
+    rows::OUTPUT_OFF + rows::SHOWN,
+    rows::IDLE + 1 + rows::SHOWN,
+    rows::LOAD + 0x155 * rows::PIN,
+    rows::LOAD + 0x0AA * rows::PIN,
+    rows::READ_OFFSET + rows::SHOWN,
+    rows::READ_OFFSET + rows::SHOWN,
+    rows::RUN_RCLK + 1 + rows::SHOWN,
+];
 
-const OFFSET_N: u32 = 0x155;
+// Offsets are of 13 bits and of 14: higher bits are ignored.
+const PARALLEL: [u64; 5] = [
+    rows::RESET,
+    rows::LOAD + 0x3FFFF * rows::PIN,
+    rows::LOAD + 0x2000 * rows::PIN,
+    rows::READ_OFFSET + rows::SHOWN,
+    rows::READ_OFFSET + rows::SHOWN,
+];
 
-const OFFSET_M: u32 = 0x0AA;
+// The least bit of n and the greatest of m are 1. One bit short of both the old offsets still stand.
+const SERIAL: [u64; 8] = [
+    rows::RESET_SERIAL,
+    rows::ONE + 1,
+    rows::ZERO + rows::WIDER + 24,
+    rows::READ_OFFSET + rows::SHOWN,
+    rows::READ_OFFSET + rows::SHOWN,
+    rows::ONE + 1,
+    rows::READ_OFFSET + rows::SHOWN,
+    rows::READ_OFFSET + rows::SHOWN,
+];
 
-pub(crate) fn print_outputs(part: u32, mode: Mode, memory: &mut [u32]) {
-    let holding = hold_word(part, mode, memory);
-    print_undriven(holding, memory);
-    print_offsets(load_offsets(holding, memory), memory);
-}
-
-fn print_undriven(holding: Bench, memory: &mut [u32]) {
-    print::print_case(holding, b"word-on-q");
-    let undriven = bench::set_pins(holding, record::disable_output(), memory);
-    print::print_case(undriven, b"oe-high");
-    let driven = bench::lower_clocks(undriven, memory);
-    print::print_case(driven, b"oe-low-again");
-}
-
-// The word in the output register: in FWFT it falls through, in Standard it is read.
-fn hold_word(part: u32, mode: Mode, memory: &mut [u32]) -> Bench {
-    let empty = bench::reset(part, mode, memory);
-    let written = bench::write_word(empty, WORD, memory);
-    let settled = bench::settle(written, memory);
-    match mode {
-        Mode::Standard => bench::read_word(settled, memory),
-        Mode::Fwft => settled,
-    }
-}
-
-fn print_offsets(loaded: Bench, memory: &mut [u32]) {
-    let shows_n = print_offset(loaded, b"offset-n-on-q", memory);
-    let shows_m = print_offset(shows_n, b"offset-m-on-q", memory);
-    let shows_word = bench::idle_read_clock(shows_m, memory);
-    print::print_case(shows_word, b"word-on-q-again");
-}
-
-fn load_offsets(holding: Bench, memory: &mut [u32]) -> Bench {
-    let with_n = bench::load_offset(holding, OFFSET_N, memory);
-    bench::load_offset(with_n, OFFSET_M, memory)
-}
-
-fn print_offset(loaded: Bench, name: &[u8], memory: &mut [u32]) -> Bench {
-    let shows = bench::read_offset(loaded, memory);
-    print::print_case(shows, name);
-    shows
+pub(crate) fn print_outputs(part: u32, fwft: bool, memory: &mut [u32]) {
+    bench::play(
+        part,
+        fwft,
+        &OUTPUTS,
+        b"word-on-q\noe-high\noe-low-again\noffset-n-on-q\noffset-m-on-q\nword-on-q-again\n",
+        memory,
+    );
+    bench::play(
+        part,
+        fwft,
+        &PARALLEL,
+        b"offset-n-all-ones\noffset-m-bit-13\n",
+        memory,
+    );
+    bench::play(
+        part,
+        fwft,
+        &SERIAL,
+        b"serial-n-one-bit-short\nserial-m-one-bit-short\nserial-n\nserial-m\n",
+        memory,
+    );
 }

@@ -1,54 +1,66 @@
 // A figure's line: part, mode and name of the case, a blank, and the outcome.
-use super::bench::Bench;
-use super::record::Mode;
+ghost use Prim.Native.Nat.{_≤_};
+ghost use lib.ListN.{length};
+use super::rows;
 use fifo::sample::Outcome;
-use runs::run::Ran;
 
-pub(crate) fn print_case(bench: Bench, name: &[u8]) {
-    let mode = bench.mode;
-    let outcome = bench.outcome;
-    print_start(bench.part, mode, name);
+// The line of a row that is shown, by the name that begins at `from`; the place of the next name.
+pub(crate) fn print_row(
+    part: u32,
+    fwft: bool,
+    row: u64,
+    words: u32,
+    names: &[u8],
+    from: usize,
+    outcome: Outcome,
+) -> usize {
+    if !rows::has(row, rows::SHOWN + rows::NUMBERED) {
+        return from;
+    }
+    print_start(part, fwft);
+    let end = print_name(names, from);
+    if rows::has(row, rows::NUMBERED) {
+        print_text(b"-");
+        print_number(words);
+    }
     print_outcome(outcome);
-}
-
-pub(crate) fn print_numbered(bench: Bench, name: &[u8], number: u32) {
-    let mode = bench.mode;
-    let outcome = bench.outcome;
-    print_start(bench.part, mode, name);
-    print_text(b"-");
-    print_number(number);
-    print_outcome(outcome);
+    end
 }
 
 // The records accepted, the index at which the run ended, and the refusal.
-pub(crate) fn print_run(part: u32, manner: &[u8], name: &[u8], ran: Ran) {
+pub(crate) fn print_run(part: u32, name: &[u8], accepted: usize, index: usize, refusal: u8) {
     print_number(part);
-    print_text(manner);
     print_text(name);
     print_text(b" accepted ");
-    io::print_decimal(1, ran.accepted as u64);
+    io::print_decimal(1, accepted as u64);
     print_text(b" ended at ");
-    io::print_decimal(1, ran.index as u64);
+    io::print_decimal(1, index as u64);
     print_text(b" with ");
-    print_number(ran.refusal as u32);
+    print_number(refusal as u32);
     print_text(b"\n");
 }
 
-fn print_start(part: u32, mode: Mode, name: &[u8]) {
+fn print_start(part: u32, fwft: bool) {
     print_number(part);
-    print_mode(mode);
-    print_text(name);
-}
-
-fn print_mode(mode: Mode) {
-    match mode {
-        Mode::Standard => print_text(b"-standard-"),
-        Mode::Fwft => print_text(b"-fwft-"),
+    if fwft {
+        print_text(b"-fwft-");
+    } else {
+        print_text(b"-standard-");
     }
 }
 
-fn print_text(text: &[u8]) {
-    io::write_all(1, text);
+// Up to the end of its line.
+fn print_name(names: &[u8], from: usize) -> usize {
+    let mut at = from;
+    while at < names.len() {
+        let byte = names[at];
+        at += 1;
+        if byte == b'\n' {
+            return at;
+        }
+        print_text(&[byte]);
+    }
+    at
 }
 
 fn print_outcome(outcome: Outcome) {
@@ -69,13 +81,17 @@ fn print_answer(answer: u32) {
         digit(answer),
         b'\n',
     ];
-    io::write_all(1, &line);
+    print_text(&line);
 }
 
 fn print_refusal(number: u8) {
     print_text(b" refused ");
     print_number(number as u32);
     print_text(b"\n");
+}
+
+fn print_text(text: &[u8]) {
+    io::write_all(1, text);
 }
 
 fn print_number(number: u32) {

@@ -1,0 +1,4 @@
+pub mod Header
+pub mod Records
+pub mod Tally
+pub mod Text

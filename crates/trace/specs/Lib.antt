@@ -1,2 +1,0 @@
-pub mod Header
-pub mod Lines
