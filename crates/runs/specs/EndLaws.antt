@@ -13,7 +13,8 @@ use Rattle.counts.specs.declared.part.Part.{Part}
 use Rattle.fifo.specs.declared.sample.Outcome.{Outcome}
 use Rattle.fifo.specs.declared.sample.Outcome.the-variants.{Taken, Refused}
 use Rattle.fifo.specs.NumberLaws.{step-numbered}
-use Rattle.fifo.specs.Sample.{numberOf, recordRefusal, stepped}
+use Rattle.fifo.specs.Sample.{After, numberOf, recordRefusal, stepped}
+use Rattle.pins.specs.Answer.{putAnswer}
 use Rattle.pins.specs.Trace.{recordsFrom, wholeRecords, wordAt}
 use Rattle.pins.specs.TraceLaws.{end-told}
 use Rattle.runs.specs.FoldLaws.{work-split}
@@ -89,6 +90,16 @@ run-ends lenient part bytes g =
       leftover = λ h some. r .atTheEnd (omega arith) ∙ end-told bytes ∙ simp (ne-eqb (length bytes % 4) 0 some);
       refused = λ h. r .atRecord (λ e. h (omega arith));
     }
+
+-- a refused record writes no answer and is not counted; a taken one's answer goes to its own three bytes
+module _ (lenient : Bool) (index : ℕ) (a : After) (g : Progress) where
+  pub refused-noted : (number : ℕ) → a .sampled .outcome ≡ Refused number
+      → (noted lenient index a g .answers ≡ g .answers) × (noted lenient index a g .accepted ≡ g .accepted)
+  refused-noted number e = rw e (refl, refl)
+
+  pub taken-noted : (answer : ℕ) → a .sampled .outcome ≡ Taken answer
+      → (noted lenient index a g .answers ≡ putAnswer (g .answers) index answer) × (noted lenient index a g .accepted ≡ g .accepted + 1)
+  taken-noted answer e = rw e (refl, refl)
 
 as-told : (e : Ended) (number index : ℕ) → e .refusal ≡ number → e .index ≡ index → e ≡ ended number index (e .progress)
 as-told e number index r k = ap (λ (n : ℕ). ended n (e .index) (e .progress)) r ∙ ap (λ (i : ℕ). ended number i (e .progress)) k
