@@ -14,9 +14,11 @@ use Rattle.counts.specs.declared.part.Lookup.{Lookup}
 use Rattle.counts.specs.declared.part.Lookup.the-variants.{Known, Unknown}
 use Rattle.counts.specs.declared.part.Part.{Part}
 use Rattle.counts.specs.Part.{depthOf, partOf}
-use Rattle.fifo_c.specs.declared.verdict.Verdict.{Verdict}
-use Rattle.fifo_c.specs.declared.verdict.Verdict.the-variants.{Work, Refuse}
-use Rattle.fifo_c.specs.Call.{Calls, Gives, PowersUp, Ready, Within, byVerdict, called, judged, memoryBytes, memoryFor, numberOf, onRecord, onState, powered, roomy, storedIn, taken, took, wordSize, worked}
+use Rattle.buffers.specs.declared.verdict.Verdict.{Verdict}
+use Rattle.buffers.specs.declared.verdict.Verdict.the-variants.{Work, Refuse}
+use Rattle.buffers.specs.Memory.{Within, memoryBytes, storedIn, wordSize}
+use Rattle.buffers.specs.Verdict.{Ready, judged, numberOf, onRecord, onState, roomy}
+use Rattle.fifo_c.specs.Call.{Calls, Gives, PowersUp, byVerdict, called, memoryFor, powered, taken, took, worked}
 use Rattle.chip.specs.declared.advance.Advanced.{Advanced}
 use Rattle.chip.specs.Advance.{advanced, storeOf}
 use Rattle.chip.specs.Answer.{answerOf}
@@ -31,37 +33,11 @@ use Rattle.fifo.specs.StillLaws.{still-free, still-quiet}
 use Rattle.pins.specs.declared.record.Pins.{Pins}
 use Rattle.pins.specs.Record.{pinsOf}
 use Rattle.pins.specs.Trace.{wordAt}
-use Rattle.fifo_c.specs.CallLaws.{cleared, store-within}
+use Rattle.buffers.specs.VerdictLaws.{cleared, store-within}
 use native.Mathlib.Omega.{arith}
 use Rattle.chip.specs.declared.advance.Store.{Store}
 use Rattle.chip.specs.declared.advance.Store.the-variants.{Put}
 use borrow.Author.Needs.{needs}
-
-module _ (part : Part) (bytes state : List ℕ) {s : State} {spelled passed : Bool} (e : spelled ≡ spells state) (made : s ≡ stateIn state) (f : passed ≡ passes part s) where
-  as-told : (spelled && passed) ≡ (spells state && passes part (stateIn state))
-  as-told = rw (← e, ← made, ← f) refl
-
-  pub state-fails : (spelled && passed) ≡ false → Refuse 3 ≡ onState part bytes state
-  unfolding onState
-  state-fails fails = rw (← as-told, fails) refl
-
-  pub state-passes : {v : Verdict} → (spelled && passed) ≡ true → v ≡ onRecord part bytes → v ≡ onState part bytes state
-  unfolding onState
-  state-passes holds g = g ∙ rw (← as-told, holds) refl
-
-module _ (number : ℕ) (bytes state : List ℕ) (memory answer : ℕ) {looked : Lookup} (e : looked ≡ partOf number) where
-  pub judged-unknown : looked ≡ Unknown → Refuse 1 ≡ judged number bytes state memory answer
-  unfolding judged
-  judged-unknown u = rw (← e, u) refl
-
-  module _ {part : Part} (known : looked ≡ Known part) {fits : Bool} (f : fits ≡ roomy part (length state) memory answer) where
-    pub judged-length : fits ≡ false → Refuse 2 ≡ judged number bytes state memory answer
-    unfolding judged
-    judged-length fails = rw (← e, known) (rw (← f, fails) refl)
-
-    pub judged-state : {v : Verdict} → fits ≡ true → v ≡ onState part bytes state → v ≡ judged number bytes state memory answer
-    unfolding judged
-    judged-state holds g = g ∙ rw (← e, known) (rw (← f, holds) refl)
 
 module _ (part : Part) (x : ℕ) (state memory answer : List ℕ) {s : State} (read : s ≡ stateIn state) {p : Pins} (decoded : p ≡ pinsOf x) {place word : ℕ}
     (found : place ≡ placeOf (depthOf part) (s .read .count .0)) (fetched : word ≡ wordAt memory (place * wordSize))
@@ -102,10 +78,6 @@ pub clocks-held : (x : ℕ) (state : List ℕ) {p : Pins} {state′ : List ℕ} 
     → state′ ≡ putClocks (p .wclk) (p .rclk) state → state′ ≡ spelling (held (pinsOf x) (stateIn state))
 clocks-held x state {p = p} room small own decoded put =
     put ∙ ap (putClocks (p .wclk) (p .rclk)) (sym (written-back state room small own)) ∙ rw decoded (clocks-put (pinsOf x) (stateIn state))
-
-pub in-reach : {store : Store} {place word at : ℕ} (memory : List ℕ) → store ≡ Put place word → at ≡ place * wordSize → Within store (length memory)
-    → at + 3 < length memory
-in-reach memory puts found within = let h = subst (λ (o : Store). Within o (length memory)) puts within in omega arith
 
 module _ (number : ℕ) (bytes state memory answer : List ℕ) {v : Verdict} (e : v ≡ judged number bytes state (length memory) (length answer)) where
   called-as : called number bytes state memory answer ≡ byVerdict v state memory answer

@@ -27,11 +27,13 @@ use Rattle.fifo.specs.Sample.{After, answersAfter, fetchedFor, isDepth, recordR
 use Rattle.pins.specs.Record.{pinsOf}
 use Rattle.pins.specs.Trace.{wholeRecords, wordAt}
 use Rattle.pins.specs.TraceLaws.{records-length}
-use Rattle.fifo_c.specs.declared.verdict.Verdict.{Verdict}
-use Rattle.fifo_c.specs.declared.verdict.Verdict.the-variants.{Refuse}
+use Rattle.buffers.specs.declared.verdict.Verdict.{Verdict}
+use Rattle.buffers.specs.declared.verdict.Verdict.the-variants.{Refuse}
 use Rattle.numerals.specs.Bytes.{wordsIn}
 use Rattle.numerals.specs.BytesLaws.{word-in, words-put}
-use Rattle.fifo_c.specs.Call.{Called, answerBytes, byVerdict, called, judged, onRecord, onState, roomy, fetchedFrom, memoryBytes, storedIn, taken, turnedAway, wordSize, worked}
+use Rattle.buffers.specs.Memory.{fetchedFrom, memoryBytes, storedIn, wordSize}
+use Rattle.buffers.specs.Verdict.{answerBytes, judged, onRecord, onState, roomy}
+use Rattle.fifo_c.specs.Call.{Called, byVerdict, called, taken, turnedAway, worked}
 use Rattle.spelling.specs.Spelling.{spelling, spells, stateBytes, stateIn}
 use Rattle.spelling.specs.ReadBackLaws.{Spelled, counted-in, read-back, spelling-bytes}
 use Rattle.spelling.specs.SpellingLaws.{Bytes, written-back}

@@ -1,14 +1,15 @@
 // Bench figures: the calls that a bench simulator in C makes.
 ghost use Rattle.chip.specs.Answer.{answerOf};
 ghost use Rattle.chip.specs.Quiet.{held};
-ghost use Rattle.fifo_c.specs.Call.{Calls, Gives, GivesMemoryBytes, GivesStateBytes, PowersUp, Ready, answerBytes, numberOf, taken, worked};
+ghost use Rattle.buffers.specs.Verdict.{Ready, answerBytes, numberOf};
+ghost use Rattle.fifo_c.specs.Call.{Calls, Gives, GivesMemoryBytes, GivesStateBytes, PowersUp, taken, worked};
 ghost use Rattle.spelling.specs.Spelling.{spelling, spells, stateBytes, stateIn};
 ghost use Rattle.pins.specs.Record.{pinsOf};
 ghost use Rattle.pins.specs.Answer.{putAnswer};
 ghost use lib.ListN.{length};
 ghost use mathlib.Core.Bool.{true};
 ghost use mathlib.Core.Path.{_≡_};
-use super::verdict::Verdict;
+use buffers::verdict::Verdict;
 use counts::part::Lookup;
 use counts::part::Part;
 use spelling::state::STATE_BYTES;
@@ -26,7 +27,7 @@ pub extern "C" fn fifo_memory_bytes(part: u32) -> u32
 {
     let looked_up = counts::part::look_up(part);
     match looked_up {
-        Lookup::Known(known) => super::memory::memory_bytes(known),
+        Lookup::Known(known) => buffers::memory::memory_bytes(known),
         Lookup::Unknown => 0,
     }
 }
@@ -53,7 +54,7 @@ pub extern "C" fn fifo_sample(
 ) -> u32
     ensures { λ r. ⌜ Calls part (now («record» .entry)) (now (state .entry)) (now (memory .entry)) (now (answer .entry)) r (now (state .exit)) (now (memory .exit)) (now (answer .exit)) ⌝ }
 {
-    let verdict = super::verdict::judge(part, record, state, memory.len(), answer.len());
+    let verdict = buffers::verdict::judge(part, record, state, memory.len(), answer.len());
     let Verdict::Work(known, word) = verdict else {
         return number_of(verdict);
     };
@@ -65,7 +66,7 @@ fn work(part: Part, word: u32, state: &mut [u8], memory: &mut [u8], answer: &mut
     requires { ⌜ Ready part (now state) (length (now memory)) (length (now answer)) ⌝ }
     ensures { λ r. ⌜ Gives (worked part word (now (state .entry)) (now (memory .entry)) (now (answer .entry))) r (now (state .exit)) (now (memory .exit)) (now (answer .exit)) ⌝ }
 {
-    if super::verdict::is_still(word, state) {
+    if buffers::verdict::is_still(word, state) {
         hold(part, word, state, answer);
         0
     } else {
@@ -83,7 +84,8 @@ fn hold(part: Part, word: u32, state: &mut [u8], answer: &mut [u8])
 {
     let p = pins::record::decode(word);
     let s = spelling::state::read_state(state);
-    put_answer(answer, chip::answer::answer(part, p, s));
+    let given = chip::answer::answer(part, p, s);
+    notes::outcome::put_answer(answer, 0, given);
     spelling::state::put_clocks(p.wclk, p.rclk, state);
 }
 
@@ -97,7 +99,7 @@ fn take_or_turn_away(
     requires { ⌜ Ready part (now state) (length (now memory)) (length (now answer)) ⌝ }
     ensures { λ r. ⌜ Gives (worked part word (now (state .entry)) (now (memory .entry)) (now (answer .entry))) r (now (state .exit)) (now (memory .exit)) (now (answer .exit)) ⌝ }
 {
-    let number = super::verdict::refuse(part, word, state);
+    let number = buffers::verdict::refuse(part, word, state);
     if number == 0 {
         take(part, word, state, memory, answer);
     }
@@ -110,22 +112,13 @@ fn take(part: Part, word: u32, state: &mut [u8], memory: &mut [u8], answer: &mut
 {
     let s = spelling::state::read_state(state);
     let place = counts::round::read_place(part, s.read.count);
-    let fetched = super::memory::fetch(memory, place);
+    let fetched = buffers::memory::fetch(memory, place);
     let advanced = chip::advance::advance(part, pins::record::decode(word), fetched, s);
     let store = advanced.store;
-    super::memory::put_away(store, memory);
+    buffers::memory::put_away(store, memory);
     let next = advanced.state;
     spelling::state::write_state(next, state);
-    put_answer(answer, advanced.answer);
-}
-
-fn put_answer(room: &mut [u8], answer: u32)
-    requires { ⌜ length (now room) ≡ answerBytes ⌝ }
-    ensures { λ _. ⌜ now (room .exit) ≡ putAnswer (now (room .entry)) 0 answer ⌝ }
-{
-    room[0] = (answer / 65536 % 256) as u8;
-    room[1] = (answer / 256 % 256) as u8;
-    room[2] = (answer % 256) as u8;
+    notes::outcome::put_answer(answer, 0, advanced.answer);
 }
 
 fn number_of(verdict: Verdict) -> u32

@@ -1,5 +1,2 @@
 // The model for C: one sample on numbers and byte buffers.
 pub mod call;
-pub mod memory;
-pub mod verdict;
-pub mod wide;

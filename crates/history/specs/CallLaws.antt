@@ -19,13 +19,15 @@ use Rattle.chip.specs.State.{passes}
 use Rattle.counts.specs.declared.part.Part.{Part}
 use Rattle.counts.specs.Part.{depthOf, numberOf}
 use Rattle.counts.specs.PartLaws.{own-number}
-use Rattle.fifo_c.specs.declared.verdict.Verdict.{Verdict}
-use Rattle.fifo_c.specs.declared.verdict.Verdict.the-variants.{Work, Refuse}
+use Rattle.buffers.specs.declared.verdict.Verdict.{Verdict}
+use Rattle.buffers.specs.declared.verdict.Verdict.the-variants.{Work, Refuse}
 use Rattle.fifo_c.specs.AsSample.{AsSample, call-is-sample}
 use Rattle.numerals.specs.Bytes.{wordsIn}
 use Rattle.numerals.specs.BytesLaws.{put-length}
-use Rattle.fifo_c.specs.Call.{answerBytes, byVerdict, called, decided, fetchedFrom, judged, memoryBytes, onRecord, onState, powered, roomy, storedIn, taken, wordSize, worked}
-use Rattle.fifo_c.specs.CallLaws.{cleared}
+use Rattle.buffers.specs.Memory.{fetchedFrom, memoryBytes, storedIn, wordSize}
+use Rattle.buffers.specs.Verdict.{answerBytes, judged, onRecord, onState, roomy}
+use Rattle.fifo_c.specs.Call.{byVerdict, called, decided, powered, taken, worked}
+use Rattle.buffers.specs.VerdictLaws.{cleared}
 use Rattle.spelling.specs.Spelling.{stateBytes, stateIn}
 use Rattle.spelling.specs.ReadBackLaws.{Spelled, power-up-bytes, power-up-read}
 use Rattle.spelling.specs.SpellingLaws.{Bytes, spelling-length}

@@ -6,7 +6,9 @@ use lib.Dec.{eqb}
 use lib.ListN.{length}
 use Rattle.counts.specs.declared.part.Part.{Part}
 use Rattle.counts.specs.Part.{numberOf}
-use Rattle.fifo_c.specs.Call.{Called, answerBytes, called, powered, wordSize}
+use Rattle.buffers.specs.Memory.{wordSize}
+use Rattle.buffers.specs.Verdict.{answerBytes}
+use Rattle.fifo_c.specs.Call.{Called, called, powered}
 use Rattle.pins.specs.Trace.{wordAt}
 
 pub record Buffers : Type 0 where

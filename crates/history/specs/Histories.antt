@@ -22,7 +22,7 @@ use Rattle.fifo.specs.declared.sample.Outcome.the-variants.{Taken}
 use Rattle.runs.specs.Run.{Ended, ranOf}
 use Rattle.fifo.specs.Sample.{numberOf}
 use Rattle.numerals.specs.Bytes.{wordsIn}
-use Rattle.fifo_c.specs.Call.{memoryBytes}
+use Rattle.buffers.specs.Memory.{memoryBytes}
 use Rattle.spelling.specs.Spelling.{stateBytes}
 use Rattle.spelling.specs.ReadBackLaws.{Spelled}
 use Rattle.pins.specs.Record.{bit, pinsOf}

@@ -15,7 +15,8 @@ use Rattle.counts.specs.declared.part.Part.{Part}
 use Rattle.counts.specs.PartLaws.{own-number}
 use Rattle.fifo.specs.declared.sample.Outcome.{Outcome}
 use Rattle.fifo.specs.declared.sample.Outcome.the-variants.{Taken, Refused}
-use Rattle.runs.specs.Run.{Ended, Progress, atEnd, ended, folded, noted, roomy, runOf, started, stops, worked}
+use Rattle.notes.specs.Outcome.{stops}
+use Rattle.runs.specs.Run.{Ended, Progress, atEnd, ended, folded, noted, roomy, runOf, started, worked}
 use Rattle.fifo.specs.Sample.{After, answersAfter, isDepth, numberOf, stepped}
 use Rattle.pins.specs.Record.{pinsOf}
 use Rattle.pins.specs.Trace.{recordsFrom, wholeRecords}

@@ -10,7 +10,8 @@ use native.Mathlib.Omega.{arith}
 use Rattle.refusals.specs.ReachLaws.{reached-passes}
 use Rattle.counts.specs.declared.part.Part.{Part}
 use Rattle.counts.specs.PartLaws.{own-number}
-use Rattle.runs.specs.Run.{Ended, Progress, atEnd, ended, folded, noted, roomy, runOf, started, stops, worked}
+use Rattle.notes.specs.Outcome.{stops}
+use Rattle.runs.specs.Run.{Ended, Progress, atEnd, ended, folded, noted, roomy, runOf, started, worked}
 use Rattle.fifo.specs.Sample as sample
 use Rattle.fifo.specs.Sample.{isDepth, stepped}
 use Rattle.pins.specs.declared.trace.Record.{Record}

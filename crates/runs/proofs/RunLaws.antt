@@ -22,37 +22,16 @@ use Rattle.runs.specs.declared.run.Ran.{Ran}
 use Rattle.fifo.specs.declared.sample.Outcome.{Outcome}
 use Rattle.fifo.specs.declared.sample.Outcome.the-variants.{Taken, Refused}
 use Rattle.fifo.specs.declared.sample.Sampled.{Sampled}
-use Rattle.runs.specs.Run.{Ended, Ends, Progress, acceptedAfter, atEnd, ended, folded, marksAfter, noted, roomy, stops, worked}
-use Rattle.pins.specs.Answer.{putAnswer}
-use Rattle.fifo.specs.Sample.{After, Gives, answerIn, answersAfter, isTaken, numberOf, stepped}
+use Rattle.notes.specs.Outcome.{acceptedAfter, marksAfter, stops}
+use Rattle.runs.specs.Run.{Ended, Ends, Progress, atEnd, ended, folded, noted, roomy, worked}
+use Rattle.fifo.specs.Sample.{After, Gives, answersAfter, numberOf, stepped}
+use Rattle.notes.specs.OutcomeLaws.{accepted-most, answers-length, marks-length}
 use Rattle.fifo.specs.SampleLaws.{refused-still, step-length, step-widths}
 
 pub no-whole : (r : Record) → (tagOf the-type r ≡ 1) ⊎ (tagOf the-type r ≡ 2) → isWhole r ≡ false
 no-whole (Whole word) t = absurd (⊎-elim (λ z. omega arith) (λ z. omega arith) t)
 no-whole Leftover t = refl
 no-whole End t = refl
-
-answers-length : (outcome : Outcome) (index : ℕ) (room : List ℕ) → length (answersAfter outcome index room) ≡ length room
-unfolding putAnswer
-answers-length (Taken answer) index room = simp length-set
-answers-length (Refused number) index room = refl
-
-marks-length : (lenient : Bool) (outcome : Outcome) (index : ℕ) (room : List ℕ) → length (marksAfter lenient outcome index room) ≡ length room
-marks-length true outcome index room = length-set room index (numberOf outcome)
-marks-length false outcome index room = refl
-
-pub answer-noted : (outcome : Outcome) (index : ℕ) (room : List ℕ) → isTaken outcome ≡ true
-    → putAnswer room index (answerIn outcome) ≡ answersAfter outcome index room
-answer-noted (Taken answer) index room e = refl
-answer-noted (Refused number) index room e = let z : _≡_ {A = ℕ} 0 1 = cc in absurd (omega arith)
-
-pub none-noted : (outcome : Outcome) (index : ℕ) (room : List ℕ) → isTaken outcome ≡ false → room ≡ answersAfter outcome index room
-none-noted (Taken answer) index room e = let z : _≡_ {A = ℕ} 0 1 = cc in absurd (omega arith)
-none-noted (Refused number) index room e = refl
-
-accepted-most : (outcome : Outcome) (accepted index : ℕ) → accepted ≤ index → acceptedAfter outcome accepted ≤ index + 1
-accepted-most (Taken answer) accepted index h = omega arith
-accepted-most (Refused number) accepted index h = omega arith
 
 still-by : {P : Type 0} (lenient : Bool) (outcome : Outcome) → stops lenient outcome ≡ true → ((number : ℕ) → outcome ≡ Refused number → P) → P
 still-by lenient (Taken answer) e f = let z : _≡_ {A = ℕ} 0 1 = cc in absurd (omega arith)

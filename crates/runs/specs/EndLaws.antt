@@ -18,7 +18,8 @@ use Rattle.pins.specs.Answer.{putAnswer}
 use Rattle.pins.specs.Trace.{recordsFrom, wholeRecords, wordAt}
 use Rattle.pins.specs.TraceLaws.{end-told}
 use Rattle.runs.specs.FoldLaws.{work-split}
-use Rattle.runs.specs.Run.{Ended, Progress, acceptedAfter, atEnd, ended, folded, noted, stops, worked}
+use Rattle.notes.specs.Outcome.{acceptedAfter, stops}
+use Rattle.runs.specs.Run.{Ended, Progress, atEnd, ended, folded, noted, worked}
 
 -- where the run of so many records from an index on ends, and with which number
 record Reaches (lenient : Bool) (part : Part) (bytes : List ℕ) (last index many accepted : ℕ) (e : Ended) : Type 0 where

@@ -14,7 +14,8 @@ use Rattle.pins.specs.Trace.{recordsFrom, wholeRecords}
 use Rattle.pins.specs.TraceLaws.{end-told, records-length, records-split}
 use Rattle.fifo.specs.declared.sample.Outcome.{Outcome}
 use Rattle.fifo.specs.declared.sample.Outcome.the-variants.{Taken, Refused}
-use Rattle.runs.specs.Run.{Ended, Progress, Stepping, acceptedAfter, atEnd, ended, folded, marksAfter, noted, stops, worked}
+use Rattle.notes.specs.Outcome.{acceptedAfter, marksAfter, stops}
+use Rattle.runs.specs.Run.{Ended, Progress, Stepping, atEnd, ended, folded, noted, worked}
 use Rattle.pins.specs.Answer.{putAnswer}
 use Rattle.fifo.specs.Sample.{After, answersAfter, isDepth, numberOf, sampled, stepped}
 use Rattle.fifo.specs.SampleLaws.{sample-is-step, step-length}

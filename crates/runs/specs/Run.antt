@@ -11,6 +11,7 @@ use Rattle.counts.specs.declared.part.Part.{Part}
 use Rattle.counts.specs.Part.{byPart, partOf}
 use Rattle.pins.specs.Trace.{recordAt, recordsFrom, wholeRecords}
 use Rattle.pins.specs.Trace as trace
+use Rattle.notes.specs.Outcome.{acceptedAfter, marksAfter, stops}
 use Rattle.runs.specs.declared.run.Ran.{Ran}
 use Rattle.fifo.specs.declared.sample.Outcome.{Outcome}
 use Rattle.fifo.specs.declared.sample.Outcome.the-variants.{Taken, Refused}
@@ -23,19 +24,6 @@ pub record Progress : Type 0 where
   pub memory : List ℕ
   pub answers : List ℕ
   pub marks : List ℕ
-
-abbrev pub acceptedAfter : Outcome → ℕ → ℕ
-acceptedAfter (Taken answer) accepted = accepted + 1
-acceptedAfter (Refused number) accepted = accepted
-
--- a lenient run marks each record with its number, 0 where it was taken
-abbrev pub marksAfter : Bool → Outcome → ℕ → List ℕ → List ℕ
-marksAfter lenient outcome index room = cond lenient (set room index (numberOf outcome)) room
-
--- a strict run goes no further than a refused record
-abbrev pub stops : Bool → Outcome → Bool
-stops lenient (Taken answer) = false
-stops lenient (Refused number) = not lenient
 
 abbrev pub noted : Bool → ℕ → After → Progress → Progress
 noted lenient index a g = record {

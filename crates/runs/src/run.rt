@@ -1,9 +1,7 @@
 // A run over a whole trace, strict or lenient.
-ghost use Prim.Native.Nat.{_*_, _+_, _<_, _^_, _≤_};
+ghost use Prim.Native.Nat.{_*_, _≤_};
 ghost use Rattle.chip.specs.State.{widths};
-ghost use Rattle.runs.specs.Run.{Began, Ends, Runs, RunsLenient, acceptedAfter, marksAfter, roomy, started, stops, worked};
-ghost use Rattle.pins.specs.Answer.{putAnswer};
-ghost use Rattle.fifo.specs.Sample.{answerIn, answersAfter, isTaken, numberOf};
+ghost use Rattle.runs.specs.Run.{Began, Ends, Runs, RunsLenient, roomy, started, worked};
 ghost use Rattle.pins.specs.Trace as trace;
 ghost use Rattle.pins.specs.Trace.{wholeRecords};
 ghost use lib.ListN.{length};
@@ -12,7 +10,6 @@ ghost use mathlib.Core.Path.{_≡_};
 use chip::state::State;
 use counts::part::Lookup;
 use counts::part::Part;
-use fifo::sample::Outcome;
 use pins::trace::Record;
 
 // Where a run ended: the index of the record that it refused, or of the end of the trace, and the number, 0 for none.
@@ -111,89 +108,13 @@ fn go(
         let outcome = sampled.outcome;
         // A refused record leaves the state as it was: the old one is not needed beside the new one.
         s = sampled.state;
-        if is_stop(lenient, outcome) {
-            return end_at(index, accepted, number_of(outcome), s);
+        if notes::outcome::is_stop(lenient, outcome) {
+            return end_at(index, accepted, notes::outcome::number_of(outcome), s);
         }
-        note_answer(outcome, index, answers);
-        note_mark(lenient, outcome, index, marks);
-        accepted = count(outcome, accepted);
+        notes::outcome::note_answer(outcome, index, answers);
+        notes::outcome::note_mark(lenient, outcome, index, marks);
+        accepted = notes::outcome::count(outcome, accepted);
         index += 1;
-    }
-}
-
-fn put_answer(answers: &mut [u8], index: usize, answer: u32)
-    requires { ⌜ index * 3 + 2 < length (now answers) ⌝ }
-    ensures { λ _. ⌜ now (answers .exit) ≡ putAnswer (now (answers .entry)) index answer ⌝ }
-{
-    let at = index * 3;
-    answers[at] = (answer / 65536 % 256) as u8;
-    answers[at + 1] = (answer / 256 % 256) as u8;
-    answers[at + 2] = (answer % 256) as u8;
-}
-
-fn note_answer(outcome: Outcome, index: usize, answers: &mut [u8])
-    requires { ⌜ index * 3 + 2 < length (now answers) ⌝ }
-    ensures { λ _. ⌜ now (answers .exit) ≡ answersAfter outcome index (now (answers .entry)) ⌝ }
-{
-    if is_taken(outcome) {
-        put_answer(answers, index, answer_of(outcome));
-    }
-}
-
-fn is_taken(outcome: Outcome) -> bool
-    ensures { λ r. ⌜ r ≡ isTaken outcome ⌝ }
-{
-    match outcome {
-        Outcome::Taken(_) => true,
-        Outcome::Refused(_) => false,
-    }
-}
-
-fn answer_of(outcome: Outcome) -> u32
-    ensures { λ r. ⌜ r ≡ answerIn outcome ⌝ }
-{
-    match outcome {
-        Outcome::Taken(answer) => answer,
-        Outcome::Refused(_) => 0,
-    }
-}
-
-fn note_mark(lenient: bool, outcome: Outcome, index: usize, marks: &mut [u8])
-    ensures { λ _. ⌜ now (marks .exit) ≡ marksAfter lenient outcome index (now (marks .entry)) ⌝ }
-{
-    let number = number_of(outcome);
-    if lenient {
-        if index < marks.len() {
-            marks[index] = number;
-        }
-    }
-}
-
-fn number_of(outcome: Outcome) -> u8
-    ensures { λ r. ⌜ r ≡ numberOf outcome ⌝ }
-{
-    match outcome {
-        Outcome::Taken(_) => 0,
-        Outcome::Refused(number) => number,
-    }
-}
-
-fn count(outcome: Outcome, accepted: usize) -> usize
-    requires { ⌜ accepted + 1 < 2 ^ 64 ⌝ }
-    ensures { λ r. ⌜ r ≡ acceptedAfter outcome accepted ⌝ }
-{
-    match outcome {
-        Outcome::Taken(_) => accepted + 1,
-        Outcome::Refused(_) => accepted,
-    }
-}
-
-fn is_stop(lenient: bool, outcome: Outcome) -> bool
-    ensures { λ r. ⌜ r ≡ stops lenient outcome ⌝ }
-{
-    match outcome {
-        Outcome::Taken(_) => false,
-        Outcome::Refused(_) => !lenient,
     }
 }
 

@@ -11,11 +11,15 @@ use Rattle.spelling.specs.Spelling.{blankElsewhere, fourLevels, spelledD
 pub both : (a b : Bool) → (a && b) ≡ true → (a ≡ true) × (b ≡ true)
 both a b = and-eq-true-iff a b .0
 
+-- a byte that is a digit of three
+abbrev small : List ℕ → ℕ → Bool
+small bytes i = ltb (getD bytes i 0) 3
+
 pub enums-small : (bytes : List ℕ) → spells bytes ≡ true → (getD bytes 12 0 < 3) × (getD bytes 13 0 < 3) × (getD bytes 14 0 < 3)
 unfolding spells spelledDigits
 enums-small bytes e =
-    let mode = both _ (ltb (getD bytes 14 0) 3) (both (spelledDigits bytes) (blankElsewhere bytes) e .0) in
-    let setup = both _ (ltb (getD bytes 13 0) 3) (mode .0) in
     let levels = fourLevels bytes 0 && fourLevels bytes 4 && fourLevels bytes 8 in
-    let view = both levels (ltb (getD bytes 12 0) 3) (setup .0) in
+    let mode = both (levels && small bytes 12 && small bytes 13) (small bytes 14) (both (spelledDigits bytes) (blankElsewhere bytes) e .0) in
+    let setup = both (levels && small bytes 12) (small bytes 13) (mode .0) in
+    let view = both levels (small bytes 12) (setup .0) in
     (ltb-true _ 3 (view .1), ltb-true _ 3 (setup .1), ltb-true _ 3 (mode .1))

@@ -9,8 +9,8 @@ returns : tie.Need-returns
 returns c =
     let put = c .before .before in
     let answered = put .before .before .before .before in
-    let worded = answered .before in
-    let read = worded .before .before in
+    let worded = answered .before .before in
+    let read = worded .before in
     let decoded = read .before .before in
     let known = decoded .before .before in
     let start = known .before in (

@@ -1,7 +1,8 @@
+use native.Mathlib.Omega.{arith}
 use denote.Ref.{now}
 use lib.ListN.{length}
 use Rattle.chip.specs.Widths.{tested-widths}
-use Rattle.fifo_c.specs.CallLaws.{fetch-within}
+use Rattle.buffers.specs.VerdictLaws.{fetch-within}
 use Rattle.spelling.specs.Spelling.{stateIn}
 use Rattle.fifo_c.proofs.Laws.{store-in-memory, takes}
 use borrow.Author.Needs.{needs}
@@ -35,7 +36,7 @@ write-state-requires : tie.Need-write-state-requires
 write-state-requires c κs = c .before .before .before .before .before .before .before .before .before .before .before .before .before .before .before .before .pre .lengths .state
 
 put-answer-requires : tie.Need-put-answer-requires
-put-answer-requires c κs = c .before .before .before .before .before .before .before .before .before .before .before .before .before .before .before .before .before .before .before .before .pre .lengths .answer
+put-answer-requires c κs = omega (arith, c .before .before .before .before .before .before .before .before .before .before .before .before .before .before .before .before .before .before .before .before .pre .lengths .answer)
 
 returns : tie.Need-returns
 returns c =

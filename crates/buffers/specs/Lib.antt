@@ -1,0 +1,4 @@
+pub mod Memory
+pub mod Verdict
+pub mod VerdictLaws
+pub mod NumberLaws

@@ -1,0 +1,2 @@
+// What is noted of a record's outcome.
+pub mod outcome;
