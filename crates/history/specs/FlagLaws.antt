@@ -1,4 +1,4 @@
--- What the flags show at a moment, and after a sample, in the onlooker's numbers of words.
+-- What the flags show at a moment, and after a sample, in the onlooker's numbers of words; and what a sample leaves in the output register.
 use Prim.Native.Nat.{ℕ, _-_, _/_, _≤_}
 use mathlib.Core.Bool.{Bool, true, false, not, cond, _&&_, _||_, true≢false}
 use mathlib.Core.Path.{_≡_, refl, sym, ap, subst, _∙_}
@@ -131,13 +131,6 @@ module _ (part : Part) (m : Moment) (t : TrueCounts) (g : Told part m t) (c : Cr
         rw (went-on, wclk-told part m t (g .agrees) p away, told-next part m t g x .agrees .written, crosses-next part m t g c k x .writeSecond)
         (paf-exact (depthOf part) (part-sized part) (m .state .write) (m .state .read) p (m .state .offsets .m) (m .state .offsets .n) _ _ tracks-then)
 
-    pub register-judged : let before = shownBy part (m .state) in let then = shownBy part (after .state) in
-        then .register ≡ cond (delivers (m .notes) p before then) (getD (m .notes .accepted) (delivered m) 0) (before .register)
-    unfolding shownBy
-    register-judged =
-        rw (went-on, delivers-told part m t (g .agrees) p away (fetchedFor part (m .state) (m .memory)), g .agrees .read)
-        (register-after part m t g p (read.delivers p (m .state .read)) refl)
-
     over-then : isOver (on .read .setup) ≡ eqb (then .wait) 0
     over-then = rw (crosses-next part m t g c k x .wait, went-on) (over-by (on .read .setup))
 
@@ -166,3 +159,10 @@ module _ (part : Part) (m : Moment) (t : TrueCounts) (g : Told part m t) (c : Cr
           fwft-shows (on .read .mode) (read.ready (on .read)) (sym (kept-fwft mode _ _ _) ∙ fwft),
         )
         (output-by mode rises (p .ld) (p .ren) (p .rt) (read.seesWord (m .state .read)) (read.seesWord (on .read)) fwft)
+
+    pub register-judged : let before = shownBy part (m .state) in let shown = shownBy part (after .state) in
+        shown .register ≡ cond (delivers (m .notes) p before shown) (getD (m .notes .accepted) (delivered m) 0) (before .register)
+    unfolding shownBy
+    register-judged =
+        rw (went-on, delivers-told part m t (g .agrees) p away (fetchedFor part (m .state) (m .memory)), g .agrees .read)
+        (register-after part m t g p (read.delivers p (m .state .read)) refl)

@@ -53,8 +53,8 @@ pub record Moved (part : Part) (m : Moment) (c : Crossing) (p : Pins) (after : M
       ready true (shownBy part (after .state))
       ≡ cond (rclkRises (m .notes) p) (p .rt && (ready true before && not (reads (m .notes) p before) || seesWord m c)) (ready true before)
   -- the output register, in both modes: the next of the words accepted where one is delivered, and kept without, in a retransmit and an offset read too
-  pub register : let before = shownBy part (m .state) in let then = shownBy part (after .state) in
-      then .register ≡ cond (delivers (m .notes) p before then) (getD (m .notes .accepted) (delivered m) 0) (before .register)
+  pub register : let before = shownBy part (m .state) in let shown = shownBy part (after .state) in
+      shown .register ≡ cond (delivers (m .notes) p before shown) (getD (m .notes .accepted) (delivered m) 0) (before .register)
 
 module _ (part : Part) (memory : List ℕ) (whole : length memory ≡ depthOf part) (samples : List ℕ) where
   abbrev there : Moment

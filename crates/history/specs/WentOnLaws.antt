@@ -60,19 +60,21 @@ next-bound true one n many h l = omega arith
 next-bound false true n many h l = omega (arith, l refl)
 next-bound false false n many h l = h
 
+-- the last word delivered since then, if any, is in the output register
 newest-by : (back one : Bool) (delivered : List ℕ) (x kept : ℕ) → (one ≡ false → x ≡ kept) → (0 < length delivered → kept ≡ lastOf delivered)
     → let list = cond back [] (cond one (delivered ++ (x ∷ [])) delivered) in 0 < length list → x ≡ lastOf list
 newest-by true one delivered x kept e h some = absurd (omega arith)
 newest-by false true delivered x kept e h some = last-after delivered x
 newest-by false false delivered x kept e h some = e refl ∙ h some
 
-came-by : (mode : Mode) (back one reads : Bool) (n : ℕ) → Came mode n → Came (modeAfter mode back one reads) (nextTrue back one n)
-came-by Standard back one reads n h = tt
-came-by (Fwft untaken) true one reads n h = tt
-came-by (Fwft untaken) false true reads n h = omega arith
-came-by (Fwft true) false false true n h = tt
-came-by (Fwft true) false false false n h = h
-came-by (Fwft false) false false reads n h = tt
+-- a word that is untaken came since then too
+came-on : (mode : Mode) (back one reads : Bool) (n : ℕ) → Came mode n → Came (modeAfter mode back one reads) (nextTrue back one n)
+came-on Standard back one reads n h = tt
+came-on (Fwft untaken) true one reads n h = tt
+came-on (Fwft untaken) false true reads n h = omega arith
+came-on (Fwft true) false false true n h = tt
+came-on (Fwft true) false false false n h = h
+came-on (Fwft false) false false reads n h = tt
 
 module _ (part : Part) (m : Moment) (t : TrueCounts) (g : Told part m t) (p : Pins) where
   abbrev fetched : ℕ
@@ -145,7 +147,7 @@ module _ (part : Part) (m : Moment) (t : TrueCounts) (g : Told part m t) (p : Pi
 
     came-after : Came (after .read .mode) (nextTrue back delivered (t .read))
     unfolding running readAfter
-    came-after = came-by (m .state .read .mode) back delivered (read.reads p (m .state .read)) (t .read) (g .agrees .came)
+    came-after = came-on (m .state .read .mode) back delivered (read.reads p (m .state .read)) (t .read) (g .agrees .came)
 
     write-place : place ≡ placeOf (depthOf part) (length (m .notes .accepted))
     write-place = rw (g .reached .tracks .written .count, g .agrees .written) (part-sized part .round (t .written))
