@@ -1,8 +1,9 @@
--- What the flags show at a moment, and after a sample, in the onlooker's numbers of words.
+-- What the flags show at a moment, and after a sample, in the onlooker's numbers of words; and what a sample leaves in the output register.
 use Prim.Native.Nat.{ℕ, _-_, _/_, _≤_}
 use mathlib.Core.Bool.{Bool, true, false, not, cond, _&&_, _||_, true≢false}
 use mathlib.Core.Path.{_≡_, refl, sym, ap, subst, _∙_}
 use lib.Dec.{eqb, leb, ltb}
+use lib.ListN.{getD}
 use native.Mathlib.Omega.{arith}
 use Rattle.chip.specs.declared.state.State.{State}
 use Rattle.chip.specs.Advance.{advanced, running, stateAfter}
@@ -28,12 +29,12 @@ use Rattle.views.specs.Retransmit.{isOver}
 use Rattle.views.specs.TrueCounts.{TrueCounts}
 use Rattle.history.specs.Crossing.{Crossing, accepted, crossedNext, delivered, seesWord}
 use Rattle.history.specs.CrossingLaws.{Crosses, crosses-next, risesLeft}
-use Rattle.history.specs.EventLaws.{full-told, reads-told, ready-told, rises-told, wclk-told}
+use Rattle.history.specs.EventLaws.{delivers-told, full-told, reads-told, ready-told, rises-told, wclk-told}
 use Rattle.history.specs.LedLaws.{countsNext, sample-steps, told-next}
-use Rattle.history.specs.Onlooker.{full, outside, rclkRises, reads, ready, wclkRises}
+use Rattle.history.specs.Onlooker.{delivers, full, outside, rclkRises, reads, ready, wclkRises}
 use Rattle.history.specs.TimeLaws.{on-by}
 use Rattle.history.specs.Told.{Told}
-use Rattle.history.specs.WentOnLaws.{kept-fwft}
+use Rattle.history.specs.WentOnLaws.{kept-fwft, register-after}
 use Rattle.history.specs.Trace.{Moment, isTaken, next, shownBy, takes}
 
 over-by : (setup : Setup) → isOver setup ≡ eqb (risesLeft setup) 0
@@ -158,3 +159,10 @@ module _ (part : Part) (m : Moment) (t : TrueCounts) (g : Told part m t) (c : Cr
           fwft-shows (on .read .mode) (read.ready (on .read)) (sym (kept-fwft mode _ _ _) ∙ fwft),
         )
         (output-by mode rises (p .ld) (p .ren) (p .rt) (read.seesWord (m .state .read)) (read.seesWord (on .read)) fwft)
+
+    pub register-judged : let before = shownBy part (m .state) in let shown = shownBy part (after .state) in
+        shown .register ≡ cond (delivers (m .notes) p before shown) (getD (m .notes .accepted) (delivered m) 0) (before .register)
+    unfolding shownBy
+    register-judged =
+        rw (went-on, delivers-told part m t (g .agrees) p away (fetchedFor part (m .state) (m .memory)), g .agrees .read)
+        (register-after part m t g p (read.delivers p (m .state .read)) refl)

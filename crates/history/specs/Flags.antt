@@ -1,4 +1,5 @@
--- The two sides and Retransmit, from power-up on: every flag is judged by the true numbers of words, however many have gone through.
+-- The two sides and Retransmit, from power-up on: every flag is judged by the true numbers of words, however many have gone through, and only a
+-- delivery changes the output register.
 --
 -- Said, as in Histories.antt, of the model's own definition of one sample, for either part, any words in its memory at power-up, and any samples.
 -- The words accepted and delivered, the rises and what came across are an onlooker's (Onlooker.antt, Crossing.antt), whose numbers go round no width.
@@ -8,7 +9,7 @@ use mathlib.Core.Bool.{true, false, not, cond, _&&_, _||_}
 use mathlib.Core.List.{List, _∷_}
 use mathlib.Core.Path.{_≡_}
 use lib.Dec.{eqb, leb, ltb}
-use lib.ListN.{length}
+use lib.ListN.{getD, length}
 use Rattle.chip.specs.Answer.{linesOf}
 use Rattle.counts.specs.declared.part.Part.{Part}
 use Rattle.counts.specs.Part.{depthOf}
@@ -18,10 +19,10 @@ use Rattle.pins.specs.Record.{pinsOf}
 use Rattle.history.specs.BackLaws.{back-shown}
 use Rattle.history.specs.Crossing.{Crossing, accepted, crossedLed, crossedNext, delivered, seesWord, uncrossed}
 use Rattle.history.specs.CrossingLaws.{crosses-from}
-use Rattle.history.specs.FlagLaws.{full-judged, half-judged, in-order, output-judged, pae-judged, paf-judged, ready-judged}
+use Rattle.history.specs.FlagLaws.{full-judged, half-judged, in-order, output-judged, pae-judged, paf-judged, ready-judged, register-judged}
 use Rattle.history.specs.LagLaws.{still-full}
 use Rattle.history.specs.LedLaws.{told-after}
-use Rattle.history.specs.Onlooker.{full, outside, rclkRises, reads, ready, wclkRises}
+use Rattle.history.specs.Onlooker.{delivers, full, outside, rclkRises, reads, ready, wclkRises}
 use Rattle.history.specs.Trace.{Moment, led, next, powerUp, shownBy, takes, undisturbed, wclkRisesIn, writeSkewMet}
 
 abbrev pub linesAt : Part → Moment → Lines
@@ -51,6 +52,9 @@ pub record Moved (part : Part) (m : Moment) (c : Crossing) (p : Pins) (after : M
   pub output : m .notes .fwft ≡ true → let before = shownBy part (m .state) in
       ready true (shownBy part (after .state))
       ≡ cond (rclkRises (m .notes) p) (p .rt && (ready true before && not (reads (m .notes) p before) || seesWord m c)) (ready true before)
+  -- the output register, in both modes: the next of the words accepted where one is delivered, and kept without, in a retransmit and an offset read too
+  pub register : let before = shownBy part (m .state) in let shown = shownBy part (after .state) in
+      shown .register ≡ cond (delivers (m .notes) p before shown) (getD (m .notes .accepted) (delivered m) 0) (before .register)
 
 module _ (part : Part) (memory : List ℕ) (whole : length memory ≡ depthOf part) (samples : List ℕ) where
   abbrev there : Moment
@@ -79,6 +83,7 @@ module _ (part : Part) (memory : List ℕ) (whole : length memory ≡ depthOf pa
         paf = paf-judged part there _ told crossing crosses x taken away;
         pae = pae-judged part there _ told crossing crosses x taken away;
         output = output-judged part there _ told crossing crosses x taken away;
+        register = register-judged part there _ told crossing crosses x taken away;
       }
 
   -- FF and IR come back in time. The words delivered at a moment, such as one just after a read, leave room for as many again from the second rise

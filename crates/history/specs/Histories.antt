@@ -30,9 +30,9 @@ use Rattle.pins.specs.Trace.{wordAt}
 use Rattle.history.specs.AnswerLaws.{answers-taken}
 use Rattle.history.specs.CallLaws.{Spells, call-answers, call-not-three, calls-lead, powered-spells, words-deep}
 use Rattle.history.specs.Calls.{Asked, Buffers, callAll, callOf, isSample, poweredOn, samplesOf}
-use Rattle.history.specs.KeptLaws.{depth-at-most, first-delivered, remainder-in-memory}
+use Rattle.history.specs.KeptLaws.{delivered-ready, depth-at-most, first-delivered, register-last, remainder-in-memory}
 use Rattle.history.specs.LedLaws.{outcome-not-three, told-after}
-use Rattle.history.specs.Onlooker.{ready, tellsReady}
+use Rattle.history.specs.Onlooker.{lastOf, ready, tellsReady}
 use Rattle.history.specs.RunAnswerLaws.{run-answers}
 use Rattle.history.specs.RunLaws.{led-parts, run-led, run-not-three}
 use Rattle.history.specs.Tight.{fwftReset, late-fwft, late-standard, risenThrice, risenTwice, standardReset, watched, wordWritten, zeros}
@@ -48,6 +48,9 @@ pub record Kept (part : Part) (m : Moment) : Type 0 where
   pub remainder : drop (length (m .notes .delivered)) (m .notes .accepted)
       ≡ wordsFrom (depthOf part) (m .memory) (m .state .read .count .0) (wordsHeld (m .state))
   pub neverOver : wordsHeld (m .state) ≤ depthOf part
+  -- the output register holds the last of the words delivered, if any was since the last reset or a later retransmit; in FWFT one was while OR is LOW
+  pub register : 0 < length (m .notes .delivered) → shownBy part (m .state) .register ≡ lastOf (m .notes .delivered)
+  pub whileLow : m .notes .fwft ≡ true → shownBy part (m .state) .ef ≡ false → 0 < length (m .notes .delivered)
   -- the state passes the test of 3, which a run makes only at its start, and no sample that comes next is refused 3
   pub passesTest : passes part (m .state) ≡ true
   pub neverThree : (x : ℕ) → numberOf (outcome part m x .sampled .outcome) ≢ 3
@@ -79,6 +82,8 @@ kept part memory whole samples =
       sameWords = first-delivered part _ _ told;
       remainder = remainder-in-memory part _ _ told;
       neverOver = depth-at-most part _ _ told;
+      register = register-last part _ _ told;
+      whileLow = delivered-ready part _ _ told;
       passesTest = reached-passes part _ _ (told .reached);
       neverThree = outcome-not-three part _ _ told;
     }

@@ -121,6 +121,8 @@ module _ (part : Part) where
       read = refl;
       holds = λ i l near. absurd (omega arith);
       same = refl;
+      newest = λ some. absurd (omega arith);
+      came = tt;
     };
   }
 

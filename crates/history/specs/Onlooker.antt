@@ -1,8 +1,9 @@
 -- What an onlooker tells of a sample that was taken, by its pins, the flags before and after it, and the output register
 -- after it. Nothing here can know a count or a stage.
-use Prim.Native.Nat.{ℕ}
+use Prim.Native.Nat.{ℕ, _-_}
 use mathlib.Core.Bool.{Bool, true, false, not, cond, _&&_, _||_}
 use mathlib.Core.List.{List, [], _∷_, _++_}
+use lib.ListN.{getD, length}
 use Rattle.pins.specs.declared.record.Pins.{Pins}
 use Rattle.pins.specs.Record.{word}
 
@@ -20,6 +21,10 @@ pub record Notes : Type 0 where
   pub fwft : Bool
   pub accepted : List ℕ
   pub delivered : List ℕ
+
+-- the last of some words
+abbrev pub lastOf : List ℕ → ℕ
+lastOf words = getD words (length words - 1) 0
 
 -- at power-up both clocks count as HIGH; a Master Reset comes before all else that is taken
 abbrev pub blank : Notes

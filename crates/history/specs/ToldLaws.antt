@@ -23,7 +23,7 @@ use Rattle.sides.specs.declared.read.Mode.the-variants.{Standard, Fwft}
 use Rattle.sides.specs.Write.{accepts}
 use Rattle.views.specs.TrueCounts.{TrueCounts, noCounts}
 use Rattle.history.specs.Onlooker.{Notes, noted, startedOver, wentOn}
-use Rattle.history.specs.Told.{Agrees, Told}
+use Rattle.history.specs.Told.{Agrees, Came, Told}
 use Rattle.history.specs.Trace.{Moment, at, shownBy}
 use Rattle.history.specs.WentOnLaws.{agrees-on}
 
@@ -35,11 +35,20 @@ partial-fwft : (mode : Mode) → isFwft mode ≡ isFwft (keptMode mode)
 partial-fwft Standard = refl
 partial-fwft (Fwft untaken) = refl
 
+-- a reset leaves no word untaken
+selected-none : (fwft : Bool) → Came (selectedMode fwft) 0
+selected-none true = tt
+selected-none false = tt
+
+partial-none : (mode : Mode) → Came (keptMode mode) 0
+partial-none Standard = tt
+partial-none (Fwft untaken) = tt
+
 module _ (part : Part) (memory : List ℕ) (whole : length memory ≡ depthOf part) (p : Pins) where
-  agrees-over : (started fwft : Bool) (mode : Mode) (o : Offsets) (reading : Reading) → fwft ≡ isFwft mode
+  agrees-over : (started fwft : Bool) (mode : Mode) (o : Offsets) (reading : Reading) → fwft ≡ isFwft mode → Came mode 0
       → Agrees part (at (cleared started (p .wclk) (p .rclk) mode o reading) memory (startedOver fwft p)) noCounts
   unfolding cleared
-  agrees-over started fwft mode o reading e = record {
+  agrees-over started fwft mode o reading e none = record {
     whole = whole;
     wclk = refl;
     rclk = refl;
@@ -48,15 +57,17 @@ module _ (part : Part) (memory : List ℕ) (whole : length memory ≡ depthOf pa
     read = refl;
     holds = λ i l near. absurd (omega arith);
     same = refl;
+    newest = λ some. absurd (omega arith);
+    came = none;
   }
 
   agrees-master : Agrees part (at (masterReset p) memory (startedOver (p .fwft) p)) noCounts
   unfolding masterReset
-  agrees-master = agrees-over _ (p .fwft) _ _ _ (selected-fwft (p .fwft))
+  agrees-master = agrees-over _ (p .fwft) _ _ _ (selected-fwft (p .fwft)) (selected-none (p .fwft))
 
   agrees-partial : (s : State) (fwft : Bool) → fwft ≡ isFwft (s .read .mode) → Agrees part (at (partialReset p s) memory (startedOver fwft p)) noCounts
   unfolding partialReset
-  agrees-partial s fwft e = agrees-over _ fwft _ _ _ (e ∙ partial-fwft (s .read .mode))
+  agrees-partial s fwft e = agrees-over _ fwft _ _ _ (e ∙ partial-fwft (s .read .mode)) (partial-none (s .read .mode))
 
 -- by the two reset pins
 by-reset : (P : State → Store → Notes → TrueCounts → Type 0) (mrs prs stores : Bool) (on kept fresh : State) (put : Store) (noting : State → Notes)

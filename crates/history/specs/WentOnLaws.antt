@@ -23,16 +23,17 @@ use Rattle.sides.specs.declared.read.Mode.the-variants.{Standard, Fwft}
 use Rattle.sides.specs.DecisionLaws.{word-left}
 use Rattle.sides.specs.Read as read
 use Rattle.sides.specs.Read.{modeAfter, readAfter}
+use Rattle.sides.specs.RegisterLaws.{left-by}
 use Rattle.sides.specs.Tracks.{nextTrue, trueAfter}
 use Rattle.sides.specs.Write as write
 use Rattle.sides.specs.Write.{writeAfter}
 use Rattle.views.specs.TrueCounts.{TrueCounts}
 use Rattle.history.specs.EventLaws.{accepts-told, delivers-told, retransmits-told}
 use Rattle.history.specs.KeptLaws.{read-place}
-use Rattle.history.specs.Onlooker.{Shown, outside, wentOn}
-use Rattle.history.specs.Told.{Agrees, Told}
+use Rattle.history.specs.Onlooker.{Shown, lastOf, outside, wentOn}
+use Rattle.history.specs.Told.{Agrees, Came, Told}
 use Rattle.history.specs.Trace.{Moment, at, shownBy}
-use Rattle.history.specs.WordLaws.{delivered-after, holds-after, length-after, take-after}
+use Rattle.history.specs.WordLaws.{delivered-after, holds-after, last-after, length-after, take-after}
 
 pub kept-fwft : (mode : Mode) (retransmitted delivered taken : Bool) → isFwft mode ≡ isFwft (modeAfter mode retransmitted delivered taken)
 kept-fwft Standard retransmitted delivered taken = refl
@@ -58,6 +59,22 @@ next-bound : (back one : Bool) (n many : ℕ) → n ≤ many → (one ≡ true �
 next-bound true one n many h l = omega arith
 next-bound false true n many h l = omega (arith, l refl)
 next-bound false false n many h l = h
+
+-- the last word delivered since then, if any, is in the output register
+newest-by : (back one : Bool) (delivered : List ℕ) (x kept : ℕ) → (one ≡ false → x ≡ kept) → (0 < length delivered → kept ≡ lastOf delivered)
+    → let list = cond back [] (cond one (delivered ++ (x ∷ [])) delivered) in 0 < length list → x ≡ lastOf list
+newest-by true one delivered x kept e h some = absurd (omega arith)
+newest-by false true delivered x kept e h some = last-after delivered x
+newest-by false false delivered x kept e h some = e refl ∙ h some
+
+-- a word that is untaken came since then too
+came-on : (mode : Mode) (back one reads : Bool) (n : ℕ) → Came mode n → Came (modeAfter mode back one reads) (nextTrue back one n)
+came-on Standard back one reads n h = tt
+came-on (Fwft untaken) true one reads n h = tt
+came-on (Fwft untaken) false true reads n h = omega arith
+came-on (Fwft true) false false true n h = tt
+came-on (Fwft true) false false false n h = h
+came-on (Fwft false) false false reads n h = tt
 
 module _ (part : Part) (m : Moment) (t : TrueCounts) (g : Told part m t) (p : Pins) where
   abbrev fetched : ℕ
@@ -89,6 +106,15 @@ module _ (part : Part) (m : Moment) (t : TrueCounts) (g : Told part m t) (p : Pi
       let held = g .agrees .holds (t .read) (omega arith) (omega arith) in
       (omega arith, rw (e, read-place part m t g, held .0) (held .1))
 
+  register-kept : delivered ≡ false → after .read .output ≡ m .state .read .output
+  unfolding running
+  register-kept e = left-by (m .state .offsets .n) p fetched (m .state .write) (m .state .read) e .output
+
+  -- only a delivery fills the output register
+  pub register-after : (one : Bool) → delivered ≡ one → after .read .output ≡ cond one (getD (m .notes .accepted) (t .read) 0) (m .state .read .output)
+  register-after true e = word-delivered e .1
+  register-after false e = register-kept e
+
   abbrev store : Store
   store = cond accepted (Put place (word (p .d))) Keep
 
@@ -119,6 +145,10 @@ module _ (part : Part) (m : Moment) (t : TrueCounts) (g : Told part m t) (p : Pi
     unfolding wentOn running readAfter
     mode-kept = g .agrees .fwft ∙ kept-fwft (m .state .read .mode) back delivered (read.reads p (m .state .read))
 
+    came-after : Came (after .read .mode) (nextTrue back delivered (t .read))
+    unfolding running readAfter
+    came-after = came-on (m .state .read .mode) back delivered (read.reads p (m .state .read)) (t .read) (g .agrees .came)
+
     write-place : place ≡ placeOf (depthOf part) (length (m .notes .accepted))
     write-place = rw (g .reached .tracks .written .count, g .agrees .written) (part-sized part .round (t .written))
 
@@ -139,4 +169,7 @@ module _ (part : Part) (m : Moment) (t : TrueCounts) (g : Told part m t) (p : Pi
           (same-by back delivered (m .notes .accepted) (m .notes .delivered) (t .read) (after .read .output) (g .agrees .same) word-delivered
           ∙ sym (take-after accepted (m .notes .accepted) (word (p .d)) (nextTrue back delivered (t .read))
           (next-bound back delivered (t .read) (length (m .notes .accepted)) (omega arith) (λ e. word-delivered e .0))));
+      newest = rw delivered-list
+          (newest-by back delivered (m .notes .delivered) (after .read .output) (m .state .read .output) register-kept (g .agrees .newest));
+      came = came-after;
     }

@@ -1,5 +1,5 @@
 -- Words in a list and in a memory that goes round.
-use Prim.Native.Nat.{ℕ, zero, suc, _+_, _%_, _≤_, _<_}
+use Prim.Native.Nat.{ℕ, zero, suc, _+_, _-_, _%_, _≤_, _<_}
 use mathlib.Core.Bool.{Bool, true, false, cond}
 use mathlib.Core.List.{List, [], _∷_, _++_}
 use mathlib.Core.Path.{_≡_, refl, sym, ap, _∙_}
@@ -12,6 +12,7 @@ use native.Mathlib.Omega.{arith}
 use Rattle.counts.specs.Round.{placeOf}
 use Rattle.counts.specs.Sized.{places-apart}
 use Rattle.pins.specs.Record.{word}
+use Rattle.history.specs.Onlooker.{lastOf}
 use Rattle.history.specs.Trace.{wordsFrom}
 
 -- the memory holds the last of the words accepted, as many as it is deep; each is of 18 bits
@@ -49,6 +50,11 @@ module _ (depth : ℕ) (memory accepted : List ℕ) (x : ℕ) (some : 0 < depth)
 pub length-after : (one : Bool) (l : List ℕ) (x n : ℕ) → length l ≡ n → length (cond one (l ++ (x ∷ [])) l) ≡ cond one (n + 1) n
 length-after true l x n e = one-longer l x ∙ ap (λ (many : ℕ). many + 1) e
 length-after false l x n e = e
+
+pub last-after : (l : List ℕ) (x : ℕ) → x ≡ lastOf (l ++ (x ∷ []))
+last-after l x =
+    let place : length (l ++ (x ∷ [])) - 1 ≡ length l = omega (arith, one-longer l x) in
+    rw place (sym (getD-append-seam l x [] 0))
 
 pub take-after : (one : Bool) (l : List ℕ) (x n : ℕ) → n ≤ length l → take n (cond one (l ++ (x ∷ [])) l) ≡ take n l
 take-after true l x n h = take-append-le n l (x ∷ []) h
