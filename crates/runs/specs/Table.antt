@@ -15,7 +15,6 @@ use Rattle.counts.specs.Part.{depthOf}
 use Rattle.offsets.specs.Loading.{loadParallel, loadSerial, loadedBy, offsetsAfter, withBit}
 use Rattle.offsets.specs.Reading.{readNext, readingAfter}
 use Rattle.offsets.specs.Registers.{defaults, fit}
-use Rattle.pins.specs.Answer.{packed}
 use Rattle.pins.specs.Trace.{recordAt, recordsFrom, wordAt}
 use Rattle.sides.specs.Clocks.{readRises, writeRises}
 use Rattle.sides.specs.Read.{delivers, readAfter, readCountAfter, reads, ready, retransmits, secondAfterRead, seesWord}
@@ -24,7 +23,7 @@ use Rattle.views.specs.declared.retransmit.View.the-variants.{Seen}
 use Rattle.views.specs.declared.stages.ReadRise.the-variants as readRise
 use Rattle.views.specs.Flags.{hfLow, paeLow}
 use Rattle.runs.specs.Run.{Ended, folded, runOf, started, worked}
-use Rattle.pins.specs.Answer.{putAnswer}
+use Rattle.pins.specs.Answer.{packed, putAnswer}
 use Rattle.fifo.specs.Sample.{recordRefusal, stepped, taken}
 
 unfoldable pub listing : List ℕ

@@ -1,5 +1,5 @@
-//! Number 3, as far as it can be told without knowing how a state is spelled: a state that one part has reached is handed
-//! in as the other part's.
+//! Number 3 on states that one part has reached and that are handed in as the other part's: what is wanted is told from the
+//! history that led there.
 
 use std::io::Result;
 
