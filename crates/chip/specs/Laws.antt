@@ -1,14 +1,16 @@
 -- What callers may know of an answer and a store without opening their definitions.
-use Prim.Native.Nat.{ℕ, _%_, _^_, _<_}
+use Prim.Native.Nat.{ℕ, _%_, _^_, _≤_, _<_}
 use mathlib.Core.Bool.{Bool, true, false, cond, _&&_}
 use mathlib.Core.Logic.{_≢_}
 use mathlib.Core.Path.{_≡_, _∙_}
+use lib.Pow.{pow-mono}
 use borrow.Author.Tests.{ltb-true}
+use native.Mathlib.Nat.{mod-eq-of-lt}
 use native.Mathlib.Omega.{arith}
 use Rattle.counts.specs.declared.part.Part.{Part}
-use Rattle.counts.specs.declared.part.Part.the-variants.{Idt72V255LA, Idt72V265LA}
 use Rattle.counts.specs.Laws.{place-below}
 use Rattle.counts.specs.Part.{depthOf, offsetBits, placeBits, within}
+use Rattle.counts.specs.PartLaws.{offset-bits}
 use Rattle.counts.specs.Round.{placeOf}
 use Rattle.offsets.specs.Reading.{shown, shownFits}
 use Rattle.offsets.specs.declared.reading.Shows.{Shows}
@@ -70,14 +72,13 @@ pub nothing-given : (part : Part) (p : Pins) (s : State) → p .oe ≡ true → 
 unfolding answerOf linesOf
 nothing-given part p s e = laid (linesOf part (p .oe) s) .q ∙ simp e
 
-offset-narrow : (part : Part) (offset : ℕ) → within (offsetBits part) offset ≡ true → word offset ≡ offset
-offset-narrow Idt72V255LA offset e = let h = ltb-true offset (2 ^ 13) e in omega arith
-offset-narrow Idt72V265LA offset e = let h = ltb-true offset (2 ^ 14) e in omega arith
+narrow : (bits x : ℕ) → bits ≤ 18 → within bits x ≡ true → word x ≡ x
+narrow bits x h e = mod-eq-of-lt (omega (arith, ltb-true x (2 ^ bits) e, pow-mono {i = bits} {j = 18} h))
 
 shown-narrow : (part : Part) (shows : Shows) (output : ℕ) → shownFits part shows ≡ true → isWord output ≡ true
     → word (shown shows output) ≡ shown shows output
-shown-narrow part Register output e f = let h = ltb-true output (2 ^ 18) f in omega arith
-shown-narrow part (Offset offset) output e f = offset-narrow part offset e
+shown-narrow part Register output e f = narrow 18 output (omega arith) f
+shown-narrow part (Offset offset) output e f = narrow (offsetBits part) offset (omega (arith, offset-bits part)) e
 
 -- OE LOW: the word is what Q shows, whole
 pub shown-given : (part : Part) (p : Pins) (s : State) → widths part s ≡ true → p .oe ≡ false

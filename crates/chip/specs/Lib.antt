@@ -15,3 +15,4 @@ pub mod ThreeLaws
 pub mod Levels
 pub mod Tells
 pub mod FlagLaws
+pub mod OffsetLaws

@@ -64,11 +64,11 @@ selected-flags : (part : Part) (oe : Bool) (p : Pins) (fwft : Bool)
 selected-flags part oe p true = cleared-flags part (Fwft false) oe true (p .wclk) (p .rclk) (defaults (p .ld)) N
 selected-flags part oe p false = cleared-flags part Standard oe true (p .wclk) (p .rclk) (defaults (p .ld)) N
 
-selected-fwft : (fwft : Bool) → isFwft (selectedMode fwft) ≡ fwft
+pub selected-fwft : (fwft : Bool) → isFwft (selectedMode fwft) ≡ fwft
 selected-fwft true = refl
 selected-fwft false = refl
 
-kept-fwft : (mode : Mode) → isFwft (keptMode mode) ≡ isFwft mode
+pub kept-fwft : (mode : Mode) → isFwft (keptMode mode) ≡ isFwft mode
 kept-fwft Standard = refl
 kept-fwft (Fwft untaken) = refl
 

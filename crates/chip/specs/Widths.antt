@@ -1,10 +1,11 @@
 -- What is turned away, 3, on widths: a state that passes them keeps passing them.
 use Prim.Native.Nat.{ℕ, _^_}
-use mathlib.Core.Bool.{Bool, true, false, cond, _&&_, and-eq-true-iff}
+use mathlib.Core.Bool.{Bool, true, false, cond}
 use mathlib.Core.Path.{_≡_, refl}
 use borrow.Author.Tests.{lt-ltb}
 use native.Mathlib.Omega.{arith}
 use Rattle.counts.specs.declared.part.Part.{Part}
+use Rattle.counts.specs.Both.{both}
 use Rattle.counts.specs.Either.{either}
 use Rattle.counts.specs.Part.{depthOf}
 use Rattle.offsets.specs.Fits.{defaults-fit, offsets-stay, shown-stays}
@@ -22,7 +23,7 @@ use Rattle.chip.specs.State.{inReach, passes, widths}
 -- a state that passes 3 passes its widths
 pub tested-widths : (part : Part) (s : State) → passes part s ≡ true → widths part s ≡ true
 unfolding passes
-tested-widths part s e = and-eq-true-iff (widths part s) (inReach (depthOf part) s) .0 e .0
+tested-widths part s e = both (widths part s) (inReach (depthOf part) s) e .0
 
 -- the test of widths taken apart
 pub record Widths (part : Part) (s : State) : Type 0 where
@@ -33,9 +34,9 @@ pub record Widths (part : Part) (s : State) : Type 0 where
 pub apart : (part : Part) (s : State) → widths part s ≡ true → Widths part s
 unfolding widths
 apart part s e =
-    let all = and-eq-true-iff (fit part (s .offsets) && shownFits part (s .reading .shows)) (isWord (s .read .output)) .0 e in
-    let both = and-eq-true-iff (fit part (s .offsets)) (shownFits part (s .reading .shows)) .0 (all .0) in
-    record { offsets = both .0; shown = both .1; output = all .1 }
+    let all = both _ _ e in
+    let offsets = both _ _ (all .0) in
+    record { offsets = offsets .0; shown = offsets .1; output = all .1 }
 
 together : (part : Part) (s : State) → Widths part s → widths part s ≡ true
 unfolding widths

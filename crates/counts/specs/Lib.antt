@@ -1,3 +1,4 @@
+pub mod Both
 pub mod Either
 pub mod Part
 pub mod PartLaws

@@ -39,16 +39,19 @@ pub in-figures : (depthOf Idt72V255LA ≡ 8192) × (offsetBits Idt72V255LA ≡ 1
     × (depthOf Idt72V265LA ≡ 16384) × (offsetBits Idt72V265LA ≡ 14) × (serialBits Idt72V265LA ≡ 28)
 in-figures = (refl, refl, refl, refl, refl, refl)
 
-places : (part : Part) → (1 ≤ placeBits part) × (placeBits part ≤ 14)
-places Idt72V255LA = omega arith
-places Idt72V265LA = omega arith
+sizes : (part : Part) → (1 ≤ placeBits part) × (placeBits part ≤ 14) × (offsetBits part ≤ 14)
+sizes Idt72V255LA = omega arith
+sizes Idt72V265LA = omega arith
+
+pub offset-bits : (part : Part) → offsetBits part ≤ 14
+offset-bits part = sizes part .2
 
 -- any power of two above 1, and no higher than the 14th
 power-bounds : (k : ℕ) → 1 ≤ k → k ≤ 14 → (2 ≤ 2 ^ k) × (2 ^ k ≤ 2 ^ 14)
 power-bounds k h l = (pow-mono {i = 1} {j = k} h, pow-mono {i = k} {j = 14} l)
 
 depth-bounds : (part : Part) → (2 ≤ depthOf part) × (depthOf part ≤ 2 ^ 14)
-depth-bounds part = let bits = places part in power-bounds (placeBits part) (bits .0) (bits .1)
+depth-bounds part = let bits = sizes part in power-bounds (placeBits part) (bits .0) (bits .1)
 
 pub two-at-least : (part : Part) → 2 ≤ depthOf part
 two-at-least part = depth-bounds part .0

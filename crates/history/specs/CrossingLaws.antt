@@ -11,7 +11,7 @@ use Rattle.refusals.specs.ReachLaws.{countsAfter}
 use Rattle.chip.specs.Reset.{cleared, masterReset, partialReset, poweredUp}
 use Rattle.counts.specs.declared.part.Part.{Part}
 use Rattle.counts.specs.Part.{depthOf}
-use Rattle.fifo.specs.Sample.{After, fetchedFor, recordRefusal, stepped, taken, turnedAway}
+use Rattle.fifo.specs.Sample.{After, fetchedFor, isTaken, recordRefusal, stepped, taken, turnedAway}
 use Rattle.offsets.specs.declared.reading.Reading.{Reading}
 use Rattle.offsets.specs.declared.registers.Offsets.{Offsets}
 use Rattle.pins.specs.declared.record.Pins.{Pins}
@@ -32,7 +32,7 @@ use Rattle.history.specs.EventLaws.{rises-told, wclk-told}
 use Rattle.history.specs.LedLaws.{countsBy, countsLed, countsNext, sample-steps, told-after, told-next}
 use Rattle.history.specs.Onlooker.{outside}
 use Rattle.history.specs.Told.{Agrees, Told}
-use Rattle.history.specs.Trace.{Moment, isTaken, led, next, powerUp, takes}
+use Rattle.history.specs.Trace.{Moment, led, next, powerUp, takes}
 
 abbrev pub risesLeft : Setup → ℕ
 risesLeft Over = 0

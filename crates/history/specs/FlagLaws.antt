@@ -13,7 +13,7 @@ use Rattle.chip.specs.ResetLaws.{isFwft}
 use Rattle.counts.specs.declared.part.Part.{Part}
 use Rattle.counts.specs.Part.{depthOf}
 use Rattle.counts.specs.Sized.{part-sized}
-use Rattle.fifo.specs.Sample.{After, fetchedFor, recordRefusal, stepped, taken, turnedAway}
+use Rattle.fifo.specs.Sample.{After, fetchedFor, isTaken, recordRefusal, stepped, taken, turnedAway}
 use Rattle.pins.specs.declared.record.Pins.{Pins}
 use Rattle.pins.specs.Record.{pinsOf}
 use Rattle.sides.specs.declared.read.Mode.{Mode}
@@ -35,7 +35,7 @@ use Rattle.history.specs.Onlooker.{delivers, full, outside, rclkRises, r
 use Rattle.history.specs.TimeLaws.{on-by}
 use Rattle.history.specs.Told.{Told}
 use Rattle.history.specs.WentOnLaws.{kept-fwft, register-after}
-use Rattle.history.specs.Trace.{Moment, isTaken, next, shownBy, takes}
+use Rattle.history.specs.Trace.{Moment, next, shownBy, takes}
 
 over-by : (setup : Setup) → isOver setup ≡ eqb (risesLeft setup) 0
 over-by Over = refl

@@ -18,13 +18,13 @@ use Rattle.counts.specs.declared.part.Part.{Part}
 use Rattle.counts.specs.Part.{depthOf, numberOf}
 use Rattle.counts.specs.PartLaws.{own-number}
 use Rattle.fifo.specs.Sample as sample
-use Rattle.fifo.specs.Sample.{After, fetchedFor, recordRefusal, stepped, taken, took, turnedAway}
+use Rattle.fifo.specs.Sample.{After, fetchedFor, isTaken, recordRefusal, stepped, taken, took, turnedAway}
 use Rattle.fifo.specs.SampleLaws.{sample-is-step}
 use Rattle.pins.specs.Record.{bit, pinsOf}
 use Rattle.views.specs.TrueCounts.{TrueCounts, noCounts}
 use Rattle.history.specs.Told.{Told}
 use Rattle.history.specs.ToldLaws.{agrees-after}
-use Rattle.history.specs.Trace.{Moment, isTaken, led, movedTo, next, outcome, powerUp}
+use Rattle.history.specs.Trace.{Moment, led, movedTo, next, outcome, powerUp}
 
 none-of : (spare : Bool) (refusal : ℕ) → cond spare 4 refusal ≡ 0 → refusal ≡ 0
 none-of true refusal e = absurd (omega arith)

@@ -17,7 +17,7 @@ use Rattle.fifo.specs.declared.sample.Outcome.{Outcome}
 use Rattle.fifo.specs.declared.sample.Outcome.the-variants.{Taken, Refused}
 use Rattle.notes.specs.Outcome.{stops}
 use Rattle.runs.specs.Run.{Ended, Progress, atEnd, ended, folded, noted, roomy, runOf, started, worked}
-use Rattle.fifo.specs.Sample.{After, answersAfter, isDepth, numberOf, stepped}
+use Rattle.fifo.specs.Sample.{After, answersAfter, isDepth, isTaken, numberOf, stepped}
 use Rattle.pins.specs.Record.{pinsOf}
 use Rattle.pins.specs.Trace.{recordsFrom, wholeRecords}
 use Rattle.pins.specs.TraceLaws.{records-length}
@@ -27,7 +27,7 @@ use Rattle.history.specs.LedLaws.{countsNext, sample-steps, told-next}
 use Rattle.history.specs.Onlooker.{Notes}
 use Rattle.history.specs.RunLaws.{either}
 use Rattle.history.specs.Told.{Told}
-use Rattle.history.specs.Trace.{Answers, Moment, answerAt, at, isTaken, led, movedTo, next, outcome, runFrom, takes, workedAt, workedOn}
+use Rattle.history.specs.Trace.{Answers, Moment, answerAt, at, led, movedTo, next, outcome, runFrom, takes, workedAt, workedOn}
 
 -- a run that has come past a record has not stopped at it
 gone-past : (P : Ended → Type 0) (stop : Bool) (number index i : ℕ) (g : Progress) (rest : Ended) → index + i < cond stop (ended number index g) rest .index

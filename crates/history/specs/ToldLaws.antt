@@ -2,7 +2,7 @@
 use Prim.Native.Nat.{ℕ}
 use mathlib.Core.Bool.{Bool, true, false, cond, _&&_}
 use mathlib.Core.List.{List}
-use mathlib.Core.Path.{_≡_, refl, _∙_}
+use mathlib.Core.Path.{_≡_, refl, sym, _∙_}
 use lib.ListN.{length}
 use native.Mathlib.Omega.{arith}
 use Rattle.chip.specs.declared.advance.Store.{Store}
@@ -11,7 +11,7 @@ use Rattle.chip.specs.declared.state.State.{State}
 use Rattle.chip.specs.Advance.{advanced, running, stateAfter, storeOf, stored}
 use Rattle.refusals.specs.ReachLaws.{countsAfter}
 use Rattle.chip.specs.Reset.{cleared, keptMode, masterReset, partialReset, selectedMode}
-use Rattle.chip.specs.ResetLaws.{isFwft}
+use Rattle.chip.specs.ResetLaws.{isFwft, kept-fwft, selected-fwft}
 use Rattle.counts.specs.declared.part.Part.{Part}
 use Rattle.counts.specs.Part.{depthOf}
 use Rattle.fifo.specs.Sample.{fetchedFor}
@@ -26,14 +26,6 @@ use Rattle.history.specs.Onlooker.{Notes, noted, startedOver, wentOn}
 use Rattle.history.specs.Told.{Agrees, Came, Told}
 use Rattle.history.specs.Trace.{Moment, at, shownBy}
 use Rattle.history.specs.WentOnLaws.{agrees-on}
-
-selected-fwft : (fwft : Bool) → fwft ≡ isFwft (selectedMode fwft)
-selected-fwft true = refl
-selected-fwft false = refl
-
-partial-fwft : (mode : Mode) → isFwft mode ≡ isFwft (keptMode mode)
-partial-fwft Standard = refl
-partial-fwft (Fwft untaken) = refl
 
 -- a reset leaves no word untaken
 selected-none : (fwft : Bool) → Came (selectedMode fwft) 0
@@ -63,11 +55,11 @@ module _ (part : Part) (memory : List ℕ) (whole : length memory ≡ depthOf pa
 
   agrees-master : Agrees part (at (masterReset p) memory (startedOver (p .fwft) p)) noCounts
   unfolding masterReset
-  agrees-master = agrees-over _ (p .fwft) _ _ _ (selected-fwft (p .fwft)) (selected-none (p .fwft))
+  agrees-master = agrees-over _ (p .fwft) _ _ _ (sym (selected-fwft (p .fwft))) (selected-none (p .fwft))
 
   agrees-partial : (s : State) (fwft : Bool) → fwft ≡ isFwft (s .read .mode) → Agrees part (at (partialReset p s) memory (startedOver fwft p)) noCounts
   unfolding partialReset
-  agrees-partial s fwft e = agrees-over _ fwft _ _ _ (e ∙ partial-fwft (s .read .mode)) (partial-none (s .read .mode))
+  agrees-partial s fwft e = agrees-over _ fwft _ _ _ (e ∙ sym (kept-fwft (s .read .mode))) (partial-none (s .read .mode))
 
 -- by the two reset pins
 by-reset : (P : State → Store → Notes → TrueCounts → Type 0) (mrs prs stores : Bool) (on kept fresh : State) (put : Store) (noting : State → Notes)

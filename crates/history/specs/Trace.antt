@@ -10,10 +10,8 @@ use Rattle.chip.specs.Reset.{poweredUp}
 use Rattle.counts.specs.declared.part.Part.{Part}
 use Rattle.counts.specs.Part.{numberOf}
 use Rattle.counts.specs.Round.{placeOf}
-use Rattle.fifo.specs.declared.sample.Outcome.{Outcome}
-use Rattle.fifo.specs.declared.sample.Outcome.the-variants.{Taken, Refused}
 use Rattle.runs.specs.Run.{Ended, runOf, started}
-use Rattle.fifo.specs.Sample.{After, sampled}
+use Rattle.fifo.specs.Sample.{After, isTaken, sampled}
 use Rattle.offsets.specs.declared.reading.Shows.the-variants.{Register}
 use Rattle.pins.specs.declared.record.Pins.{Pins}
 use Rattle.pins.specs.Record.{bit, pinsOf, word}
@@ -53,10 +51,6 @@ pub record Answers (part : Part) (p : Pins) (s : State) (answer : ℕ) : Type 0 
 -- the answer of a record in the room for answers: three bytes, the first of most weight
 unfoldable pub answerAt : ℕ → List ℕ → ℕ
 answerAt index room = getD room (index * 3) 0 * 2 ^ 16 + getD room (index * 3 + 1) 0 * 2 ^ 8 + getD room (index * 3 + 2) 0
-
-abbrev pub isTaken : Outcome → Bool
-isTaken (Taken answer) = true
-isTaken (Refused number) = false
 
 -- the records of a trace that a run works before it comes to an index, and the record there
 abbrev pub workedOn : ℕ → List ℕ → List ℕ

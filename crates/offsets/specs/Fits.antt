@@ -1,9 +1,9 @@
 -- What is turned away, 3, on the offsets: the test read as bounds, and kept by loading and reading.
 use Prim.Native.Nat.{ℕ, _+_, _^_, _≤_, _<_}
-use mathlib.Core.Bool.{Bool, true, false, cond, not, _&&_, and-eq-true-iff}
+use mathlib.Core.Bool.{Bool, true, false, cond, not, _&&_}
 use mathlib.Core.Logic.{_≢_}
 use mathlib.Core.Path.{_≡_, refl, ap, _∙_}
-use lib.Dec.{eqb, ltb}
+use lib.Dec.{eqb}
 use lib.Pow.{pow-lt, pow-pos}
 use borrow.Author.Tests.{ltb-true, lt-ltb, eqb-false}
 use native.Mathlib.Nat.{mod-lt, two-pow-succ}
@@ -11,8 +11,10 @@ use native.Mathlib.Numerals.{add-one}
 use native.Mathlib.Omega.{arith}
 use Rattle.counts.specs.declared.part.Part.{Part}
 use Rattle.counts.specs.declared.part.Part.the-variants.{Idt72V255LA, Idt72V265LA}
+use Rattle.counts.specs.Both.{both}
 use Rattle.counts.specs.Either.{either}
-use Rattle.counts.specs.Part.{aboveBits, lowBits, offsetBits, serialBits, within}
+use Rattle.counts.specs.Part.{aboveBits, lowBits, offsetBits, serialBits}
+use Rattle.counts.specs.PartLaws.{offset-bits}
 use Rattle.pins.specs.declared.record.Pins.{Pins}
 use Rattle.offsets.specs.declared.registers.Offsets.{Offsets}
 use Rattle.offsets.specs.declared.reading.Reading.{Reading}
@@ -22,7 +24,7 @@ use Rattle.offsets.specs.declared.registers.Method.{Method}
 use Rattle.offsets.specs.declared.registers.Method.the-variants.{Parallel, Serial}
 use Rattle.offsets.specs.Loading.{loadParallel, loadSerial, loadedBy, offsetsAfter, pushed, withBit}
 use Rattle.offsets.specs.Reading.{ended, readNext, readingAfter, shownFits}
-use Rattle.offsets.specs.Registers.{defaults, fit, isN, serialFits}
+use Rattle.offsets.specs.Registers.{defaults, fit, isN}
 
 pub record Fits (part : Part) (o : Offsets) : Type 0 where
   pub n : o .n < 2 ^ offsetBits part
@@ -33,13 +35,12 @@ pub record Fits (part : Part) (o : Offsets) : Type 0 where
 pub fits : (part : Part) (o : Offsets) → fit part o ≡ true → Fits part o
 unfolding fit
 fits part o e =
-    let bits = offsetBits part in
-    let split = and-eq-true-iff (within bits (o .n) && within bits (o .m)) (serialFits (serialBits part) (o .serial) (o .count)) .0 e in
-    let registers = and-eq-true-iff (within bits (o .n)) (within bits (o .m)) .0 (split .0) in
-    let serial = and-eq-true-iff (ltb (o .count) (serialBits part)) (ltb (o .serial) (2 ^ o .count)) .0 (split .1) in
+    let all = both _ _ e in
+    let registers = both _ _ (all .0) in
+    let serial = both _ _ (all .1) in
     record {
-      n = ltb-true (o .n) (2 ^ bits) (registers .0);
-      m = ltb-true (o .m) (2 ^ bits) (registers .1);
+      n = ltb-true (o .n) (2 ^ offsetBits part) (registers .0);
+      m = ltb-true (o .m) (2 ^ offsetBits part) (registers .1);
       count = ltb-true (o .count) (serialBits part) (serial .0);
       serial = ltb-true (o .serial) (2 ^ o .count) (serial .1);
     }
@@ -55,8 +56,7 @@ fitting part o f =
     )
 
 pub few-bits : (part : Part) → serialBits part ≤ 28
-few-bits Idt72V255LA = omega arith
-few-bits Idt72V265LA = omega arith
+few-bits part = omega (arith, offset-bits part)
 
 pub serial-small : (part : Part) (o : Offsets) → fit part o ≡ true → (o .serial < 2 ^ o .count) × (2 ^ o .count < 2 ^ 28)
 serial-small part o e =

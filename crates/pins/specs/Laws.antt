@@ -1,17 +1,33 @@
--- The packed answer has each line at its bit, and the record is put together again from its levels.
+-- Trace sample: each pin at its bit of the record, each line at its bit of the answer, and the record put together again from its levels.
 use Prim.Native.Nat.{ℕ, suc, _+_, _*_, _/_, _%_, _^_, _≤_, _<_}
 use mathlib.Core.Path.{_≡_, refl, sym, ap, _∙_}
 use mathlib.Core.Bool.{Bool, true, false, cond}
-use mathlib.Core.Logic.{_≢_}
+use mathlib.Core.Logic.{_≢_, _↔_}
 use lib.Dec.{eqb}
-use borrow.Author.Tests.{eqb-true, eqb-false}
+use borrow.Author.Tests.{eq-eqb, eqb-true, eqb-false}
 use lib.Pow.{shr-shr}
 use native.Mathlib.Nat.{mod-lt, add-mul, mul-assoc, pow-succ'}
 use native.Mathlib.Numerals.{add-one}
 use native.Mathlib.Omega.{arith}
 use Rattle.pins.specs.declared.answer.Lines.{Lines}
-use Rattle.pins.specs.Record.{at, bit, pinsOf, recordOf, word}
+use Rattle.pins.specs.declared.record.Pins.{Pins}
+use Rattle.pins.specs.Record.{at, bit, pinsOf, word}
 use Rattle.pins.specs.Answer.{given, packed}
+
+-- a level is HIGH exactly where bit k of x is 1
+abbrev pub AtBit : ℕ → ℕ → Bool → Type 0
+AtBit x k level = (level ≡ true) ↔ (x / 2 ^ k % 2 ≡ 1)
+
+at-bit : (x k : ℕ) → AtBit x k (bit k x)
+at-bit x k = (eqb-true _ _, eq-eqb _ _)
+
+-- D is bits 17 to 0
+pub pins-at : (x : ℕ) → let p = pinsOf x in
+    AtBit x 31 (p .mrs) × AtBit x 30 (p .prs) × AtBit x 29 (p .wclk) × AtBit x 28 (p .rclk) × AtBit x 27 (p .wen) × AtBit x 26 (p .ren)
+    × AtBit x 25 (p .ld) × AtBit x 24 (p .sen) × AtBit x 23 (p .rt) × AtBit x 22 (p .fwft) × AtBit x 21 (p .oe)
+    × AtBit x 20 (p .skew .write) × AtBit x 19 (p .skew .read) × (p .d ≡ x % 2 ^ 18)
+pins-at x =
+    let at = at-bit x in (at 31, at 30, at 29, at 28, at 27, at 26, at 25, at 24, at 23, at 22, at 21, at 20, at 19, refl)
 
 -- a level as a number
 abbrev digit : Bool → ℕ
@@ -73,7 +89,7 @@ digit-back : (y w : ℕ) (one : Bool) → eqb y 1 ≡ one → y < 2 → cond one
 digit-back y w true e h = let f : y ≡ 1 = eqb-true _ _ e in rw f (omega arith)
 digit-back y w false e h = let n : y ≢ 1 = eqb-false _ _ e in let f : y ≡ 0 = omega arith in rw f (omega arith)
 
-level-back : (k x : ℕ) → at k (bit k x) ≡ x / 2 ^ k % 2 * 2 ^ k
+pub level-back : (k x : ℕ) → at k (bit k x) ≡ x / 2 ^ k % 2 * 2 ^ k
 level-back k x = digit-back (x / 2 ^ k % 2) (2 ^ k) (bit k x) refl (mod-lt (x / 2 ^ k) (omega arith))
 
 -- the bits above k put back, and then bit k
@@ -86,6 +102,13 @@ one-lower k x sum e =
     ap (λ (y : ℕ). y * 2 ^ k) halves ∙ add-mul (above * 2) (x / 2 ^ k % 2) (2 ^ k) in
     let whole : above * 2 ^ suc k ≡ above * 2 * 2 ^ k = ap (λ (y : ℕ). above * y) (pow-succ' 2 k) ∙ sym (mul-assoc above 2 (2 ^ k)) in
     omega (arith, level-back k x)
+
+-- the record of the pins, with bit 18 zero
+unfoldable pub recordOf : Pins → ℕ
+recordOf p =
+    at 31 (p .mrs) + at 30 (p .prs) + at 29 (p .wclk) + at 28 (p .rclk) + at 27 (p .wen) + at 26 (p .ren) + at 25 (p .ld)
+    + at 24 (p .sen) + at 23 (p .rt) + at 22 (p .fwft) + at 21 (p .oe) + at 20 (p .skew .write) + at 19 (p .skew .read)
+    + word (p .d)
 
 pub record-again : (x : ℕ) → x < 2 ^ 32 → bit 18 x ≡ false → recordOf (pinsOf x) ≡ x
 unfolding recordOf

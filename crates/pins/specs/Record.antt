@@ -1,5 +1,5 @@
 -- Trace sample: the pins in a record.
-use Prim.Native.Nat.{ℕ, _+_, _/_, _%_, _^_}
+use Prim.Native.Nat.{ℕ, _/_, _%_, _^_}
 use mathlib.Core.Bool.{Bool, cond}
 use lib.Dec.{eqb, ltb}
 use Rattle.pins.specs.declared.record.Pins.{Pins}
@@ -34,10 +34,3 @@ pinsOf x = record {
 -- a level put at bit k
 abbrev pub at : ℕ → Bool → ℕ
 at k level = cond level (2 ^ k) 0
-
--- the record of the pins, with bit 18 zero
-unfoldable pub recordOf : Pins → ℕ
-recordOf p =
-    at 31 (p .mrs) + at 30 (p .prs) + at 29 (p .wclk) + at 28 (p .rclk) + at 27 (p .wen) + at 26 (p .ren) + at 25 (p .ld)
-    + at 24 (p .sen) + at 23 (p .rt) + at 22 (p .fwft) + at 21 (p .oe) + at 20 (p .skew .write) + at 19 (p .skew .read)
-    + word (p .d)

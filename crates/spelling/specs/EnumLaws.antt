@@ -1,15 +1,13 @@
 -- The state's bytes: bytes that spell a state have a digit below 3 for each of the write side's view, the setup and the mode.
 use Prim.Native.Nat.{ℕ, _<_}
-use mathlib.Core.Bool.{Bool, true, _&&_, and-eq-true-iff}
+use mathlib.Core.Bool.{Bool, true, _&&_}
 use mathlib.Core.List.{List}
 use mathlib.Core.Path.{_≡_}
 use lib.Dec.{ltb}
 use lib.ListN.{getD}
 use borrow.Author.Tests.{ltb-true}
+use Rattle.counts.specs.Both.{both}
 use Rattle.spelling.specs.Spelling.{blankElsewhere, fourLevels, spelledDigits, spells}
-
-pub both : (a b : Bool) → (a && b) ≡ true → (a ≡ true) × (b ≡ true)
-both a b = and-eq-true-iff a b .0
 
 -- a byte that is a digit of three
 abbrev small : List ℕ → ℕ → Bool

@@ -9,11 +9,12 @@ use borrow.Author.Tests.{eqb-true, ltb-true}
 use native.Mathlib.Omega.{arith}
 use Rattle.chip.specs.declared.state.State.{State}
 use Rattle.chip.specs.Quiet.{held}
+use Rattle.counts.specs.Both.{both}
 use Rattle.pins.specs.declared.record.Pins.{Pins}
 use Rattle.numerals.specs.Bytes.{byteOf, halfAt, lowByte, lowFirstAt, putFour, putFours}
 use Rattle.numerals.specs.Digits.{digitOf, modeDigit, modeOf, readBefore, readRiseOf, setupDigit, setupOf, shownOffset, showsOf, viewDigit, viewOf, writeBefore, writeRiseOf}
 use Rattle.numerals.specs.DigitsLaws.{digit-back, method-back, mode-back, next-back, offset-back, read-before-back, read-rose-back, setup-back, shown-back, view-back, write-before-back, write-rose-back}
-use Rattle.spelling.specs.EnumLaws.{both, enums-small}
+use Rattle.spelling.specs.EnumLaws.{enums-small}
 use Rattle.spelling.specs.Spelling.{blankElsewhere, countsOf, enumsOf, fourLevels, levelAt, levelsOf, offsetsIn, putClocks, readIn, readingIn, restOf, spelledDigits, spelling, spells, stateBytes, stateIn, writeIn}
 
 -- the first elements of a list, one by one
