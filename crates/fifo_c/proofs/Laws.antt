@@ -73,6 +73,10 @@ module _ (part : Part) (x : ℕ) (state memory answer : List ℕ) {told : Bool} 
       rw (still-free part x (stateIn state) calm, quiet-advanced part (pinsOf x) _ (stateIn state) (still-quiet x (stateIn state) calm))
       (record { result = refl; spelled = f; words = refl; room = g })
 
+pub answer-given : (part : Part) (x : ℕ) (state answer : List ℕ) {p : Pins} {s : State} {given : ℕ} {answer′ : List ℕ} → p ≡ pinsOf x → s ≡ stateIn state
+    → given ≡ answerOf part p s → answer′ ≡ putAnswer answer 0 given → answer′ ≡ putAnswer answer 0 (answerOf part (pinsOf x) (stateIn state))
+answer-given part x state answer decoded read found put = put ∙ rw (found, read, decoded) refl
+
 -- only the levels are other bytes than before
 pub clocks-held : (x : ℕ) (state : List ℕ) {p : Pins} {state′ : List ℕ} → length state ≡ stateBytes → Bytes state → spells state ≡ true → p ≡ pinsOf x
     → state′ ≡ putClocks (p .wclk) (p .rclk) state → state′ ≡ spelling (held (pinsOf x) (stateIn state))

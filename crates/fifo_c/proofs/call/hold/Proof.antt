@@ -1,6 +1,5 @@
 use denote.Ref.{now}
-use mathlib.Core.Path.{refl, _∙_}
-use Rattle.fifo_c.proofs.Laws.{clocks-held}
+use Rattle.fifo_c.proofs.Laws.{answer-given, clocks-held}
 use borrow.Author.Needs.{needs}
 use Rattle.fifo_c.proofs.call.hold.Statement.{statement}
 use Rattle.fifo_c.proofs.call.hold.Tie as tie
@@ -15,7 +14,8 @@ returns c =
     let known = decoded .before .before in
     let start = known .before in (
       clocks-held (start .args .word) (now (start .args .state)) (start .pre .0) (λ i. known .slice-known .given i .fits) (start .pre .1 .0) (decoded .decode .ensures) (put .put-clocks .ensures),
-      answered .put-answer .ensures ∙ rw (worded .answer .ensures, read .read-state .ensures, decoded .decode .ensures) refl,
+      answer-given (start .args .part) (start .args .word) (now (start .args .state)) (now (start .args .answer)) (decoded .decode .ensures) (read .read-state .ensures)
+          (worded .answer .ensures) (answered .put-answer .ensures),
     )
 
 pub hold-spec : {M : Type 1} → statement M
