@@ -4,7 +4,7 @@
 #include <string.h>
 
 #include "guarded.h"
-#include "run_c.h"
+#include "handed_c.h"
 #include "talk.h"
 
 enum { STATE = 48, MOST_RECORDS = 70100, MOST_WORDS = 16384 + 1, ENDED = 2, FILLED = 0xA5 };

@@ -1,2 +1,1 @@
 pub mod Began
-pub mod HandedLaws

@@ -1,3 +1,2 @@
 pub mod FromPowerUp
-pub mod Handed
 pub mod Unique

@@ -1,28 +1,10 @@
--- What counts as an answer proved: two outcomes that meet a promise are the same in number or index, and in every room lent.
+-- What counts as an answer proved: two outcomes that meet the promise are the same in index, memory and answer room.
 use Prim.Native.Nat.{ℕ}
 use mathlib.Core.List.{List}
 use mathlib.Core.Path.{_≡_, sym, _∙_}
 use Rattle.run_c.specs.FromPowerUp.{RunsFromPowerUp}
-use Rattle.run_c.specs.Handed.{Handed, Hands, RunsLenient, RunsStrict}
 
 pub from-power-up-unique : (number : ℕ) (bytes memory answers : List ℕ) (a b : ℕ) (m n k l : List ℕ)
     → RunsFromPowerUp number bytes memory answers a m k → RunsFromPowerUp number bytes memory answers b n l → (a ≡ b) × (m ≡ n) × (k ≡ l)
 from-power-up-unique number bytes memory answers a b m n k l f g =
     (f .ended ∙ sym (g .ended), f .words ∙ sym (g .words), f .room ∙ sym (g .room))
-
-hands-unique : (expected : Handed) (a b : ℕ) (s t m n k l i j : List ℕ) → Hands expected a s m k i → Hands expected b t n l j
-    → (a ≡ b) × (s ≡ t) × (m ≡ n) × (k ≡ l) × (i ≡ j)
-hands-unique expected a b s t m n k l i j f g =
-    (f .result ∙ sym (g .result), f .spelled ∙ sym (g .spelled), f .words ∙ sym (g .words), f .room ∙ sym (g .room), f .told ∙ sym (g .told))
-
-pub strict-unique : (number : ℕ) (bytes state memory answers ended : List ℕ) (a b : ℕ) (s t m n k l i j : List ℕ)
-    → RunsStrict number bytes state memory answers ended a s m k i → RunsStrict number bytes state memory answers ended b t n l j
-    → (a ≡ b) × (s ≡ t) × (m ≡ n) × (k ≡ l) × (i ≡ j)
-strict-unique number bytes state memory answers ended = hands-unique _
-
-pub lenient-unique : (number : ℕ) (bytes state memory answers marks ended : List ℕ) (a b : ℕ) (s t m n k l x y i j : List ℕ)
-    → RunsLenient number bytes state memory answers marks ended a s m k x i → RunsLenient number bytes state memory answers marks ended b t n l y j
-    → (a ≡ b) × (s ≡ t) × (m ≡ n) × (k ≡ l) × (i ≡ j) × (x ≡ y)
-lenient-unique number bytes state memory answers marks ended a b s t m n k l x y i j f g =
-    let same = hands-unique _ a b s t m n k l i j (f .hands) (g .hands) in
-    (same .0, same .1, same .2, same .3, same .4, f .marked ∙ sym (g .marked))

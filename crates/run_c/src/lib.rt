@@ -1,3 +1,2 @@
-// The runs under names for programs in C: one that is timed, and two that are tried from outside.
-pub mod handed;
+// A run under a name for programs in C, which time it.
 pub mod timed;

@@ -1,12 +1,12 @@
-use Rattle.run_c.proofs.handed.is_sound.Statement.{statement}
-use Rattle.run_c.proofs.handed.is_sound.Tie as tie
+use Rattle.handed_c.proofs.handed.is_sound.Statement.{statement}
+use Rattle.handed_c.proofs.handed.is_sound.Tie as tie
 use mathlib.Core.Bool.{and-eq-true-iff}
 use lib.Dec.{eqb}
 use lib.ListN.{length}
 use denote.Ref.{now}
 use borrow.Author.Tests.{eqb-true}
 use Rattle.spelling.specs.Spelling.{stateBytes}
-use Rattle.run_c.specs.Handed.{endedSize}
+use Rattle.handed_c.specs.Handed.{endedSize}
 
 spells-state-requires : tie.Need-spells-state-requires
 spells-state-requires c κs =

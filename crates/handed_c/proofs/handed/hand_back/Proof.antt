@@ -1,8 +1,8 @@
 use borrow.Author.Needs.{needs}
 use denote.Ref.{now}
-use Rattle.run_c.proofs.HandedLaws.{both-set}
-use Rattle.run_c.proofs.handed.hand_back.Statement.{statement}
-use Rattle.run_c.proofs.handed.hand_back.Tie as tie
+use Rattle.handed_c.proofs.HandedLaws.{both-set}
+use Rattle.handed_c.proofs.handed.hand_back.Statement.{statement}
+use Rattle.handed_c.proofs.handed.hand_back.Tie as tie
 
 returns : tie.Need-returns
 returns c =

@@ -1,5 +1,5 @@
 // Runs from a state that is handed in as bytes, so that both can be tried on every kind of state, room and trace.
-ghost use Rattle.run_c.specs.Handed.{HandsBack, RunsLenient, RunsStrict, endedSize, sound};
+ghost use Rattle.handed_c.specs.Handed.{HandsBack, RunsLenient, RunsStrict, endedSize, sound};
 ghost use Rattle.spelling.specs.Spelling.{stateBytes};
 ghost use lib.ListN.{length};
 ghost use mathlib.Core.Path.{_≡_};

@@ -1,8 +1,8 @@
 use denote.Ref.{now}
-use Rattle.run_c.proofs.HandedLaws.{strict-none, strict-runs, sound-lengths}
+use Rattle.handed_c.proofs.HandedLaws.{strict-none, strict-runs, sound-lengths}
 use borrow.Author.Needs.{needs}
-use Rattle.run_c.proofs.handed.fifo_run_from.Statement.{statement}
-use Rattle.run_c.proofs.handed.fifo_run_from.Tie as tie
+use Rattle.handed_c.proofs.handed.fifo_run_from.Statement.{statement}
+use Rattle.handed_c.proofs.handed.fifo_run_from.Tie as tie
 
 read-state-requires : tie.Need-read-state-requires
 read-state-requires c κs =

@@ -12,7 +12,7 @@ use Rattle.runs.specs.declared.run.Ran.{Ran}
 use Rattle.runs.specs.Run as runs
 use Rattle.runs.specs.Run.{ranOf, runOf, started}
 use Rattle.spelling.specs.Spelling.{spells, stateBytes, stateIn}
-use Rattle.run_c.specs.Handed.{Hands, HandsBack, RunsLenient, RunsStrict, endedSize, ranHanded, sound}
+use Rattle.handed_c.specs.Handed.{Hands, HandsBack, RunsLenient, RunsStrict, endedSize, ranHanded, sound}
 
 pub both-set : (room : List ℕ) (index accepted : ℕ) → length room ≡ endedSize → set (set room 0 index) 1 accepted ≡ index ∷ accepted ∷ []
 both-set [] index accepted e = absurd (omega arith)
