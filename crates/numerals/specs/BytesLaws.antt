@@ -7,7 +7,7 @@ use lib.ListN.{getD, length, length-set, set}
 use lib.Seq.{getD-set-other, getD-set-same}
 use native.Mathlib.Nat.{add-zero, mod-eq-of-lt, zero-add}
 use native.Mathlib.Omega.{arith}
-use Rattle.pins.specs.Trace.{joined, recordsFrom, wholeRecords, wordAt}
+use Rattle.pins.specs.Trace.{joined, itemsFrom, recordsFrom, wholeRecords, wordAt}
 use Rattle.numerals.specs.Bytes.{byteOf, lowByte, putFour, putWord, wordsIn}
 
 pub word-again : (word : ℕ) → word < 2 ^ 32 → joined (byteOf 24 word) (byteOf 16 word) (byteOf 8 word) (lowByte word) ≡ word
