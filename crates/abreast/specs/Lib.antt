@@ -1,0 +1,6 @@
+pub mod Abreast
+pub mod PinLaws
+pub mod AbreastLaws
+pub mod NeverApart
+pub mod Seen
+pub mod Examples
