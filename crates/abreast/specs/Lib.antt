@@ -4,3 +4,5 @@ pub mod AbreastLaws
 pub mod NeverApart
 pub mod Seen
 pub mod Examples
+pub mod Filled
+pub mod FullExamples
