@@ -1,5 +1,7 @@
 pub mod Abreast
+pub mod Pairing
 pub mod PinLaws
+pub mod PairingLaws
 pub mod AbreastLaws
 pub mod NeverApart
 pub mod Seen
