@@ -2,6 +2,8 @@ pub mod Abreast
 pub mod Pairing
 pub mod PinLaws
 pub mod PairingLaws
+pub mod RunLaws
+pub mod EachHalf
 pub mod AbreastLaws
 pub mod NeverApart
 pub mod Seen

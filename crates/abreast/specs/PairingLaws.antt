@@ -1,10 +1,12 @@
 -- Each half of a pair is a part: what the pair's own sample leads to is what the single part's sample leads to, where the pair takes it.
 use Prim.Native.Nat.{ℕ}
-use mathlib.Core.Bool.{Bool, true, false, cond, _&&_, true≢false}
+use mathlib.Core.Bool.{Bool, true, false, cond, _&&_, _||_, true≢false}
 use mathlib.Core.List.{List, [], _∷_}
+use mathlib.Core.Logic.{_≢_}
 use mathlib.Core.Path.{_≡_, refl, sym, ap, subst, _∙_}
 use lib.ListN.{length}
 use borrow.Author.Tests.{eq-eqb, eqb-true}
+use native.Mathlib.Omega.{arith}
 use lib.Dec.{eqb}
 use Rattle.chip.specs.ResetLaws.{isFwft}
 use Rattle.counts.specs.declared.part.Part.{Part}
@@ -12,10 +14,11 @@ use Rattle.counts.specs.Part.{depthOf}
 use Rattle.counts.specs.PartLaws.{own-number}
 use Rattle.fifo.specs.declared.sample.Outcome.the-variants as fifo
 use Rattle.fifo.specs.Sample as single
-use Rattle.fifo.specs.Sample.{isDepth, stepped}
+use Rattle.fifo.specs.Sample.{isDepth, recordRefusal}
 use Rattle.pair.specs.declared.sample.Outcome.{Outcome}
 use Rattle.pair.specs.declared.sample.Outcome.the-variants.{Taken, Refused}
-use Rattle.pair.specs.Refuse.{pairRefusal}
+use Rattle.pair.specs.declared.state.Halves.{Halves}
+use Rattle.pair.specs.Refuse.{pairRefusal, samePins}
 use Rattle.pair.specs.Sample.{After, both, isTaken, numberOf, pairStepped, turnedAway}
 use Rattle.pair.specs.SampleLaws.{free-both, refused-still, sample-is-step, step-numbered, taken-both}
 use Rattle.pair.specs.State.{passesBoth}
@@ -24,7 +27,7 @@ use Rattle.pair.specs.Two.{Two, two}
 use Rattle.pins.specs.Record.{pinsOf}
 use Rattle.refusals.specs.ReachLaws.{reached-passes}
 use Rattle.views.specs.TrueCounts.{TrueCounts, noCounts}
-use Rattle.history.specs.LedLaws.{countsLed, countsNext, sample-steps, told-after, told-next}
+use Rattle.history.specs.LedLaws.{countsLed, countsNext, not-three, sample-steps, told-after, told-next}
 use Rattle.history.specs.Onlooker.{Notes, noted, wentOn}
 use Rattle.history.specs.TakenLaws.{notes-taken}
 use Rattle.history.specs.Told.{Told}
@@ -40,6 +43,20 @@ pub record Paired (part : Part) (b : Pairing) : Type 0 where
   pub left : Told part (b .left) leftCounts
   pub right : Told part (b .right) rightCounts
   pub mode : b .left .notes .fwft ≡ b .right .notes .fwft
+
+not-three-by : (four same none : Bool) (left right : ℕ) → left ≢ 3 → right ≢ 3 → cond four 4 (cond same (cond none right left) 11) ≢ 3
+not-three-by true same none left right l r e = omega arith
+not-three-by false true true left right l r e = r e
+not-three-by false true false left right l r e = l e
+not-three-by false false none left right l r e = omega arith
+
+pub step-not-three : (part : Part) (x : Records) (h : Halves) (memory : Two (List ℕ)) → numberOf (pairStepped part x h memory .sampled .outcome) ≢ 3
+unfolding pairRefusal
+step-not-three part x h memory e =
+    let left = recordRefusal part (x .left) (h .left) in
+    let right = recordRefusal part (x .right) (h .right) in
+    not-three-by (eqb left 4 || eqb right 4) (samePins (x .left) (x .right)) (eqb left 0) left right (not-three part (x .left) (h .left))
+    (not-three part (x .right) (h .right)) (sym (step-numbered part x h memory .told) ∙ e)
 
 taken-by : (o : Outcome) → isTaken o ≡ true → o ≡ Taken (answersAfter o (two 0 0) .left) (answersAfter o (two 0 0) .right)
 taken-by (Taken left right) e = refl
@@ -61,7 +78,7 @@ module _ (part : Part) (m : Moment) (x : ℕ) where
   mode-next e = ap (λ (n : Notes). n .fwft) (notes-taken part m x e) ∙ mode-by (pinsOf x .mrs) (pinsOf x .prs) _ _ _ (m .notes .fwft) refl refl
 
 module _ (part : Part) (b : Pairing) (g : Paired part b) where
-  passes-test : passesBoth part (halvesOf b) ≡ true
+  pub passes-test : passesBoth part (halvesOf b) ≡ true
   unfolding passesBoth
   passes-test =
       simp (
@@ -78,6 +95,9 @@ module _ (part : Part) (b : Pairing) (g : Paired part b) where
     pub pair-steps : pairOutcome part b x ≡ pairStepped part x (halvesOf b) (memoriesOf b)
     unfolding pairOutcome
     pair-steps = sample-is-step _ x (halvesOf b) (memoriesOf b) part (own-number part) sized passes-test
+
+    pub pair-not-three : numberOf (pairOutcome part b x .sampled .outcome) ≢ 3
+    pair-not-three = rw pair-steps (step-not-three part x (halvesOf b) (memoriesOf b))
 
     -- taken, with these answers: both parts take their own records, with these answers, and so does each by itself
     pub record TakenEach (left right : ℕ) : Type 0 where
