@@ -5,6 +5,8 @@ pub mod PairingLaws
 pub mod RunLaws
 pub mod EachHalf
 pub mod AbreastLaws
+pub mod AwaitedLaws
+pub mod Awaited
 pub mod NeverApart
 pub mod Seen
 pub mod Examples

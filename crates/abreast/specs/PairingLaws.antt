@@ -68,7 +68,7 @@ mode-by true false on over anew fwft e f = f
 mode-by false prs on over anew fwft e f = refl
 
 module _ (part : Part) (m : Moment) (x : ℕ) where
-  taken-single : {answer : ℕ} → outcome part m x .sampled .outcome ≡ fifo.Taken answer → takes part m x ≡ true
+  pub taken-single : {answer : ℕ} → outcome part m x .sampled .outcome ≡ fifo.Taken answer → takes part m x ≡ true
   unfolding takes
   taken-single e = rw e refl
 
