@@ -6,9 +6,9 @@ pub mod RunLaws
 pub mod EachHalf
 pub mod AbreastLaws
 pub mod AwaitedLaws
-pub mod Awaited
 pub mod NeverApart
 pub mod Seen
 pub mod Examples
 pub mod Filled
 pub mod FullExamples
+pub mod Needed
