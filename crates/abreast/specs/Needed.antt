@@ -88,7 +88,16 @@ module _ (part : Part) where
     word : v .word ≡ true → EachOf part (WordAwaited part) b xs
     equal : NeverApart part b many xs → (v .accepted .0 ≡ v .accepted .1) × (v .taken .0 ≡ v .taken .1)
 
-  lifted : (xs : List Records) (b : Pairing) (many : Two ℕ) → Paired part b → Composed part b
+  -- the composite tells where the first sample asks for anything, which a reset does not
+  abbrev Opening : Pairing → List Records → Type 0
+  Opening b [] = Unit {0}
+  Opening b (x ∷ xs) = (asksToWrite part (b .left) x ≡ true → Composed part b) × (asksToRead part (b .left) x ≡ true → Composed part b)
+
+  opening : (b : Pairing) (xs : List Records) → Composed part b → Opening b xs
+  opening b [] composed = tt
+  opening b (x ∷ xs) composed = (λ asked. composed, λ asked. composed)
+
+  lifted : (xs : List Records) (b : Pairing) (many : Two ℕ) → Paired part b → Opening b xs
       → let v = seenFrom part (b .left) (many .left) (b .right) (many .right) xs in v .together ≡ true → Lifted b many xs v
   unfolding seenFrom
   lifted [] b many g composed e = record { room = λ h. tt; word = λ h. tt; equal = λ never. (never .accepted, never .taken) }
@@ -102,12 +111,49 @@ module _ (part : Part) where
       let rest =
       subst (λ (v : Seen). v .together ≡ true → Lifted (pairNext part b x) (two n k) xs v)
       (λ i. seenFrom part (each .leftNext i) n (each .rightNext i) k xs)
-      (lifted xs (pairNext part b x) (two n k) (paired-next part b g x) (composed-next part b g x taken)) (now .1) in
+      (lifted xs (pairNext part b x) (two n k) (paired-next part b g x) (opening (pairNext part b x) xs (composed-next part b g x taken))) (now .1) in
       record {
         room = λ h. (let both = and-eq-true-iff _ _ .0 h in
-            (λ is asked. (let heeded = seen.room-told part (b .left) (b .right) x (both .0) asked in composed .room (heeded .0) (heeded .1)), rest .room (both .1)));
+            (λ is asked. (let heeded = seen.room-told part (b .left) (b .right) x (both .0) asked in composed .0 asked .room (heeded .0) (heeded .1)), rest .room (both .1)));
         word = λ h. (let both = and-eq-true-iff _ _ .0 h in
-            (λ is asked. (let heeded = seen.word-told part (b .left) (b .right) x (both .0) asked in composed .word (heeded .0) (heeded .1)), rest .word (both .1)));
+            (λ is asked. (let heeded = seen.word-told part (b .left) (b .right) x (both .0) asked in composed .1 asked .word (heeded .0) (heeded .1)), rest .word (both .1)));
         equal = λ never.
             rest .equal (subst (λ (numbers : Two ℕ). NeverApart part (pairNext part b x) numbers xs) (λ i. cond (takes i) (two n k) many) (never .1));
       }
+
+abbrev memories : Two (List ℕ)
+memories = two zeros zeros
+
+zeros-deep : length zeros ≡ depthOf part255
+unfolding zeros
+zeros-deep = length-replicate {A = ℕ} 8192 0
+
+powered : Paired part255 (poweredBoth memories)
+powered = paired-powered part255 memories zeros-deep zeros-deep
+
+opens-ef : Opening part255 (poweredBoth memories) readByEf
+unfolding tried poweredBoth readByEf
+opens-ef = (λ e. absurd (true≢false (sym e)), λ e. absurd (true≢false (sym e)))
+
+opens-ff : Opening part255 (poweredBoth memories) (filledThen false writeByFf)
+unfolding tried poweredBoth
+opens-ff = (λ e. absurd (true≢false (sym e)), λ e. absurd (true≢false (sym e)))
+
+-- a user who does not wait for both parts' EF or OR
+pub word-needed : ((memory : Two (List ℕ)) → length (memory .left) ≡ depthOf part255 → length (memory .right) ≡ depthOf part255 → (samples : List Records)
+    → EachOf part255 (RoomAwaited part255) (poweredBoth memory) samples → NeverApart part255 (poweredBoth memory) (two 0 0) samples) → ⊥
+unfolding poweredBoth
+word-needed never =
+    let told = lifted part255 readByEf (poweredBoth memories) (two 0 0) powered opens-ef (rw apart-by-ef refl) in
+    let apart = told .equal (never memories zeros-deep zeros-deep readByEf (told .room (rw apart-by-ef refl))) .1 in
+    absurd (omega (arith, rw apart-by-ef at apart))
+
+-- nor for both parts' FF or IR
+pub room-needed : ((memory : Two (List ℕ)) → length (memory .left) ≡ depthOf part255 → length (memory .right) ≡ depthOf part255 → (samples : List Records)
+    → EachOf part255 (WordAwaited part255) (poweredBoth memory) samples → NeverApart part255 (poweredBoth memory) (two 0 0) samples) → ⊥
+unfolding poweredBoth
+room-needed never =
+    let samples = filledThen false writeByFf in
+    let told = lifted part255 samples (poweredBoth memories) (two 0 0) powered opens-ff (rw apart-by-ff refl) in
+    let apart = told .equal (never memories zeros-deep zeros-deep samples (told .word (rw apart-by-ff refl))) .0 in
+    absurd (omega (arith, rw apart-by-ff at apart))
