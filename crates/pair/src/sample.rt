@@ -65,9 +65,13 @@ pub fn step(
     ensures { λ r. ⌜ Steps part (two left right) state (two (now («left_memory» .entry)) (now («right_memory» .entry))) r (two (now («left_memory» .exit)) (now («right_memory» .exit))) ⌝ }
 {
     if are_still(left, right, state) {
-        hold(part, left, right, state)
+        return hold(part, left, right, state);
+    }
+    let number = super::refuse::refusal(part, left, right, state);
+    if number == 0 {
+        take(part, left, right, state, left_memory, right_memory)
     } else {
-        take_or_turn_away(part, left, right, state, left_memory, right_memory)
+        turn_away(number, state)
     }
 }
 
@@ -86,25 +90,6 @@ fn hold(part: Part, left: u32, right: u32, state: Halves) -> Sampled
     let by_left = fifo::sample::hold(part, pins::record::decode(left), state.left);
     let by_right = fifo::sample::hold(part, pins::record::decode(right), state.right);
     join(by_left, by_right)
-}
-
-fn take_or_turn_away(
-    part: Part,
-    left: u32,
-    right: u32,
-    state: Halves,
-    left_memory: &mut [u32],
-    right_memory: &mut [u32],
-) -> Sampled
-    requires { ⌜ (widths part (state .left) ≡ true) × (widths part (state .right) ≡ true) ⌝ }
-    ensures { λ r. ⌜ Steps part (two left right) state (two (now («left_memory» .entry)) (now («right_memory» .entry))) r (two (now («left_memory» .exit)) (now («right_memory» .exit))) ⌝ }
-{
-    let number = super::refuse::refusal(part, left, right, state);
-    if number == 0 {
-        take(part, left, right, state, left_memory, right_memory)
-    } else {
-        turn_away(number, state)
-    }
 }
 
 fn take(

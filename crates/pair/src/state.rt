@@ -25,11 +25,9 @@ pub fn power_up() -> Halves
 pub fn passes_test(part: Part, state: Halves) -> bool
     ensures { λ r. ⌜ Tested part state r ⌝ }
 {
-    let left = state.left;
-    let right = state.right;
-    chip::state::passes_test(part, left)
-        & chip::state::passes_test(part, right)
-        & is_alike(is_fwft(left), is_fwft(right))
+    chip::state::passes_test(part, state.left)
+        & chip::state::passes_test(part, state.right)
+        & is_alike(is_fwft(state.left), is_fwft(state.right))
 }
 
 fn is_fwft(state: State) -> bool
