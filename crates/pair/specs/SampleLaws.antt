@@ -23,7 +23,7 @@ use Rattle.pins.specs.Record.{pinsOf}
 use Rattle.pair.specs.declared.sample.Outcome.the-variants.{Taken, Refused}
 use Rattle.pair.specs.declared.state.Halves.{Halves}
 use Rattle.pair.specs.Refuse.{pairRefusal, samePins}
-use Rattle.pair.specs.Sample.{After, both, isTaken, numberOf, pairSampled, pairSampleRefusal, pairStepped, takenBoth, turnedAway}
+use Rattle.pair.specs.Sample.{After, both, isTaken, numberOf, pairSampled, pairSampleRefusal, pairStepped, turnedAway}
 use Rattle.pair.specs.State.{passesBoth}
 use Rattle.pair.specs.Two.{Two, two}
 
@@ -85,8 +85,9 @@ module _ (part : Part) (x : Two ℕ) (h : Halves) where
     unfolding pairStepped
     step-both e = simp (eq-eqb _ _ e)
 
-    pub step-takes : pairRefusal part x h ≡ 0 → pairStepped part x h memory ≡ takenBoth part x h memory
-    unfolding takenBoth
+    pub step-takes : pairRefusal part x h ≡ 0
+        → pairStepped part x h memory
+        ≡ both (taken part (pinsOf (x .left)) (h .left) (memory .left)) (taken part (pinsOf (x .right)) (h .right) (memory .right))
     step-takes e =
         let free = free-both e in
         step-both e ∙ simp (single-taken part (x .left) (h .left) (memory .left) (free .0), single-taken part (x .right) (h .right) (memory .right) (free .1))
