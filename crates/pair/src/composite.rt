@@ -35,5 +35,9 @@ pub fn mode_after(mode: Mode, record: u32) -> Mode
     ensures { λ r. ⌜ ModeAfter mode «record» r ⌝ }
 {
     let p = pins::record::decode(record);
-    if p.mrs { mode } else { chip::reset::select_mode(p.fwft) }
+    if p.mrs {
+        mode
+    } else {
+        chip::reset::select_mode(p.fwft)
+    }
 }
