@@ -6,6 +6,7 @@ use mathlib.Core.List.{List, [], _∷_}
 use mathlib.Core.Path.{_≡_, refl}
 use native.Mathlib.Omega.{arith}
 use Rattle.counts.specs.declared.part.Part.the-variants.{Idt72V255LA as part255}
+use Rattle.pair.specs.Two.{two}
 use Rattle.history.specs.Asked.{readsWord, takenNext}
 use Rattle.history.specs.Tight.{tried, zeros}
 use Rattle.history.specs.Trace.{powerUp}
@@ -15,14 +16,14 @@ use Rattle.abreast.specs.Seen.{equal-told, heeded-told, seen, seenFrom}
 -- a word written, and two rises of RCLK, the first of which meets the skew at the left part only; then a read by EF
 unfoldable pub readByEf : List Records
 readByEf =
-    (0x4D980000, 0x4D980000) ∷ (0xE7980041, 0xE7980042) ∷ (0xFF980000, 0xFF900000) ∷ (0xEF980000, 0xEF980000) ∷ (0xFF980000, 0xFF980000)
-    ∷ (0xEF980000, 0xEF980000) ∷ (0xFB980000, 0xFB980000) ∷ []
+    two 0x4D980000 0x4D980000 ∷ two 0xE7980041 0xE7980042 ∷ two 0xFF980000 0xFF900000 ∷ two 0xEF980000 0xEF980000 ∷ two 0xFF980000 0xFF980000
+    ∷ two 0xEF980000 0xEF980000 ∷ two 0xFB980000 0xFB980000 ∷ []
 
 -- in FWFT, where OR takes a rise more
 unfoldable pub readByOr : List Records
 readByOr =
-    (0x4DD80000, 0x4DD80000) ∷ (0xE7980041, 0xE7980042) ∷ (0xFF980000, 0xFF900000) ∷ (0xEF980000, 0xEF980000) ∷ (0xFF980000, 0xFF980000)
-    ∷ (0xEF980000, 0xEF980000) ∷ (0xFF980000, 0xFF980000) ∷ (0xEF980000, 0xEF980000) ∷ (0xFB980000, 0xFB980000) ∷ []
+    two 0x4DD80000 0x4DD80000 ∷ two 0xE7980041 0xE7980042 ∷ two 0xFF980000 0xFF900000 ∷ two 0xEF980000 0xEF980000 ∷ two 0xFF980000 0xFF980000
+    ∷ two 0xEF980000 0xEF980000 ∷ two 0xFF980000 0xFF980000 ∷ two 0xEF980000 0xEF980000 ∷ two 0xFB980000 0xFB980000 ∷ []
 
 pub apart-by-ef : seen readByEf
     ≡ record { together = true; room = true; word = false; leftRoom = true; leftWord = true; accepted = (1, 1); taken = (1, 0) }

@@ -5,6 +5,7 @@ use mathlib.Core.List.{List, [], _∷_}
 use mathlib.Core.Path.{_≡_, refl, _∙_}
 use native.Mathlib.Omega.{arith}
 use Rattle.counts.specs.declared.part.Part.the-variants.{Idt72V255LA as part255}
+use Rattle.pair.specs.Two.{two}
 use Rattle.history.specs.Asked.{readsWord, takenNext}
 use Rattle.history.specs.Tight.{tried, zeros}
 use Rattle.history.specs.Trace.{powerUp}
@@ -16,16 +17,16 @@ use Rattle.abreast.specs.Seen.{equal-told, heeded-told, seen, seenFrom}
 -- a write by FF
 unfoldable pub writeByFf : List Records
 writeByFf =
-    (0xDF980000, 0xDF980000) ∷ (0xCF980000, 0xCF980000) ∷ (0xDF980000, 0xDF980000) ∷ (0xCF980000, 0xCF980000) ∷ (0xDB980000, 0xDB980000)
-    ∷ (0xCF980000, 0xCF980000) ∷ (0xEF980000, 0xEF880000) ∷ (0xCF980000, 0xCF980000) ∷ (0xEF980000, 0xEF980000) ∷ (0xCF980000, 0xCF980000)
-    ∷ (0xE7980041, 0xE7980042) ∷ []
+    two 0xDF980000 0xDF980000 ∷ two 0xCF980000 0xCF980000 ∷ two 0xDF980000 0xDF980000 ∷ two 0xCF980000 0xCF980000 ∷ two 0xDB980000 0xDB980000
+    ∷ two 0xCF980000 0xCF980000 ∷ two 0xEF980000 0xEF880000 ∷ two 0xCF980000 0xCF980000 ∷ two 0xEF980000 0xEF980000 ∷ two 0xCF980000 0xCF980000
+    ∷ two 0xE7980041 0xE7980042 ∷ []
 
 -- by IR, where the third rise of RCLK delivers a word without a read
 unfoldable pub writeByIr : List Records
 writeByIr =
-    (0xDF980000, 0xDF980000) ∷ (0xCF980000, 0xCF980000) ∷ (0xDF980000, 0xDF980000) ∷ (0xCF980000, 0xCF980000) ∷ (0xDF980000, 0xDF980000)
-    ∷ (0xCF980000, 0xCF980000) ∷ (0xEF980000, 0xEF880000) ∷ (0xCF980000, 0xCF980000) ∷ (0xEF980000, 0xEF980000) ∷ (0xCF980000, 0xCF980000)
-    ∷ (0xE7980041, 0xE7980042) ∷ []
+    two 0xDF980000 0xDF980000 ∷ two 0xCF980000 0xCF980000 ∷ two 0xDF980000 0xDF980000 ∷ two 0xCF980000 0xCF980000 ∷ two 0xDF980000 0xDF980000
+    ∷ two 0xCF980000 0xCF980000 ∷ two 0xEF980000 0xEF880000 ∷ two 0xCF980000 0xCF980000 ∷ two 0xEF980000 0xEF980000 ∷ two 0xCF980000 0xCF980000
+    ∷ two 0xE7980041 0xE7980042 ∷ []
 
 pub apart-by-ff : seen (filledThen false writeByFf)
     ≡ record { together = true; room = false; word = true; leftRoom = true; leftWord = true; accepted = (8193, 8192); taken = (1, 1) }

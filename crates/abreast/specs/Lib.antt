@@ -1,6 +1,12 @@
 pub mod Abreast
+pub mod Pairing
 pub mod PinLaws
+pub mod PairingLaws
+pub mod RunLaws
+pub mod EachHalf
 pub mod AbreastLaws
+pub mod AwaitedLaws
+pub mod Awaited
 pub mod NeverApart
 pub mod Seen
 pub mod Examples

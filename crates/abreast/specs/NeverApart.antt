@@ -19,7 +19,7 @@ module _ (part : Part) where
   stay-abreast [] left right n k like together room word = like
   stay-abreast (s ∷ samples) left right n k like together room word = (
     like,
-    stay-abreast samples (next part left (s .0)) (next part right (s .1)) _ _
+    stay-abreast samples (next part left (s .left)) (next part right (s .right)) _ _
         (abreast-next part left right n k like s (together .0) (room .0) (word .0)) (together .1) (room .1) (word .1),
   )
 
@@ -33,9 +33,9 @@ module _ (part : Part) where
 
   -- where the samples lead each part by itself
   pub abreast-led : (samples : List Records) (left right : Moment) (n k : ℕ) → NeverApart part left n right k samples
-      → let xs = map (λ (s : Records). s .0) samples in let ys = map (λ (s : Records). s .1) samples in
+      → let xs = map (λ (s : Records). s .left) samples in let ys = map (λ (s : Records). s .right) samples in
       Abreast (led part left xs .notes) (takenLed part left xs n) (led part right ys .notes) (takenLed part right ys k)
   unfolding led takenLed
   abreast-led [] left right n k never = never
   abreast-led (s ∷ samples) left right n k never =
-      abreast-led samples (next part left (s .0)) (next part right (s .1)) (takenNext part left (s .0) n) (takenNext part right (s .1) k) (never .1)
+      abreast-led samples (next part left (s .left)) (next part right (s .right)) (takenNext part left (s .left) n) (takenNext part right (s .right) k) (never .1)

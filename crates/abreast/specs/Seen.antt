@@ -45,13 +45,13 @@ module _ (part : Part) where
   showsWord m = ready (m .notes .fwft) (shownBy part (m .state))
 
   abbrev asksToWrite : Moment → Records → Bool
-  asksToWrite left s = asksWrite (left .notes) (pinsOf (s .0))
+  asksToWrite left s = asksWrite (left .notes) (pinsOf (s .left))
 
   abbrev asksToRead : Moment → Records → Bool
-  asksToRead left s = asksRead (left .notes) (pinsOf (s .0))
+  asksToRead left s = asksRead (left .notes) (pinsOf (s .left))
 
   abbrev takenSame : Moment → Moment → Records → Bool
-  takenSame left right s = takes part left (s .0) && takes part right (s .1) && eqb (s .0 / 2 ^ 21) (s .1 / 2 ^ 21)
+  takenSame left right s = takes part left (s .left) && takes part right (s .right) && eqb (s .left / 2 ^ 21) (s .right / 2 ^ 21)
 
   -- with so many words taken before
   unfoldable pub seenFrom : Moment → ℕ → Moment → ℕ → List Records → Seen
@@ -65,7 +65,7 @@ module _ (part : Part) where
     taken = (n, k);
   }
   seenFrom left n right k (s ∷ samples) =
-      let later = seenFrom (next part left (s .0)) (takenNext part left (s .0) n) (next part right (s .1)) (takenNext part right (s .1) k) samples in
+      let later = seenFrom (next part left (s .left)) (takenNext part left (s .left) n) (next part right (s .right)) (takenNext part right (s .right) k) samples in
       record {
         together = takenSame left right s && later .together;
         room = only (asksToWrite left s) (showsRoom left && showsRoom right) && later .room;
@@ -80,8 +80,8 @@ module _ (part : Part) where
   module _ (left right : Moment) (s : Records) where
     together-told : takenSame left right s ≡ true → Together part left right s
     together-told e =
-        let both = and-eq-true-iff (takes part left (s .0) && takes part right (s .1)) (eqb (s .0 / 2 ^ 21) (s .1 / 2 ^ 21)) .0 e in
-        let taken = and-eq-true-iff (takes part left (s .0)) (takes part right (s .1)) .0 (both .0) in
+        let both = and-eq-true-iff (takes part left (s .left) && takes part right (s .right)) (eqb (s .left / 2 ^ 21) (s .right / 2 ^ 21)) .0 e in
+        let taken = and-eq-true-iff (takes part left (s .left)) (takes part right (s .right)) .0 (both .0) in
         record { verdict = taken .0 ∙ sym (taken .1); same = λ is. eqb-true _ _ (both .1) }
 
     room-told : only (asksToWrite left s) (showsRoom left && showsRoom right) ≡ true → RoomHeeded part left right s
@@ -99,7 +99,7 @@ module _ (part : Part) where
   unfolding seenFrom
   heeded-told [] left right n k = (λ e. tt, λ e. tt, λ e. tt)
   heeded-told (s ∷ samples) left right n k =
-      let rest = heeded-told samples (next part left (s .0)) (next part right (s .1)) (takenNext part left (s .0) n) (takenNext part right (s .1) k) in (
+      let rest = heeded-told samples (next part left (s .left)) (next part right (s .right)) (takenNext part left (s .left) n) (takenNext part right (s .right) k) in (
         λ e. let both = and-eq-true-iff _ _ .0 e in (together-told left right s (both .0), rest .0 (both .1)),
         λ e. let both = and-eq-true-iff _ _ .0 e in (room-told left right s (both .0), rest .1 (both .1)),
         λ e. let both = and-eq-true-iff _ _ .0 e in (word-told left right s (both .0), rest .2 (both .1)),
@@ -111,7 +111,7 @@ module _ (part : Part) where
   unfolding seenFrom
   equal-told [] left right n k never = (never .accepted, never .taken)
   equal-told (s ∷ samples) left right n k never =
-      equal-told samples (next part left (s .0)) (next part right (s .1)) (takenNext part left (s .0) n) (takenNext part right (s .1) k) (never .1)
+      equal-told samples (next part left (s .left)) (next part right (s .right)) (takenNext part left (s .left) n) (takenNext part right (s .right) k) (never .1)
 
 -- on two parts 255, from power-up with memories of zeros
 abbrev pub seen : List Records → Seen
