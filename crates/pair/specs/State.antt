@@ -7,8 +7,11 @@ use Rattle.chip.specs.State.{passes}
 use Rattle.counts.specs.declared.part.Part.{Part}
 use Rattle.pair.specs.declared.state.Halves.{Halves}
 
+abbrev pub poweredUpBoth : Halves
+poweredUpBoth = record { left = poweredUp; right = poweredUp }
+
 abbrev pub PoweredUp : Halves → Type 0
-PoweredUp r = r ≡ record { left = poweredUp; right = poweredUp }
+PoweredUp r = r ≡ poweredUpBoth
 
 abbrev pub alike : Bool → Bool → Bool
 alike left right = left && right || not left && not right

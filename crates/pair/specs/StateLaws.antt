@@ -8,7 +8,7 @@ use Rattle.chip.specs.Widths.{tested-widths}
 use Rattle.counts.specs.declared.part.Part.{Part}
 use Rattle.counts.specs.Both.{both}
 use Rattle.pair.specs.declared.state.Halves.{Halves}
-use Rattle.pair.specs.State.{alike, passesBoth}
+use Rattle.pair.specs.State.{alike, passesBoth, poweredUpBoth}
 
 pub alike-same : (left right : Bool) → alike left right ≡ true → left ≡ right
 alike-same true true e = refl
@@ -37,6 +37,6 @@ tested-both-widths part h e =
     let passed = tested-both part h e in
     (tested-widths part (h .left) (passed .left), tested-widths part (h .right) (passed .right))
 
-pub power-up-passes-both : (part : Part) → passesBoth part (record { left = poweredUp; right = poweredUp }) ≡ true
+pub power-up-passes-both : (part : Part) → passesBoth part poweredUpBoth ≡ true
 unfolding passesBoth
 power-up-passes-both part = simp (power-up-passes part, alike-itself (isFwft (poweredUp .read .mode)))
