@@ -1,11 +1,12 @@
 -- Two parts of one kind side by side, each with an onlooker of its own: what their user keeps to, and what it is that they are not apart.
-use Prim.Native.Nat.{ℕ, _/_, _^_}
+use Prim.Native.Nat.{ℕ}
 use mathlib.Core.Bool.{true}
 use mathlib.Core.Path.{_≡_}
 use lib.ListN.{length}
 use Rattle.counts.specs.declared.part.Part.{Part}
 use Rattle.pins.specs.Record.{pinsOf}
-use Rattle.pair.specs.Two.{Two}
+use Rattle.halves.specs.Refuse.{samePins}
+use Rattle.halves.specs.Two.{Two}
 use Rattle.history.specs.Asked.{ShowsRoom, ShowsWord}
 use Rattle.history.specs.Onlooker.{Notes, asksRead, asksWrite}
 use Rattle.history.specs.Trace.{Moment, takes}
@@ -13,14 +14,10 @@ use Rattle.history.specs.Trace.{Moment, takes}
 abbrev pub Records : Type 0
 Records = Two ℕ
 
--- two records that are equal in every pin but D and the skew marks: in bits 31 to 21
-abbrev pub SamePins : ℕ → ℕ → Type 0
-SamePins x y = x / 2 ^ 21 ≡ y / 2 ^ 21
-
 module _ (part : Part) (left right : Moment) (s : Records) where
   -- each part takes its record, and they have the same pins
   abbrev pub TakenSame : Type 0
-  TakenSame = (takes part left (s .left) ≡ true) × (takes part right (s .right) ≡ true) × SamePins (s .left) (s .right)
+  TakenSame = (takes part left (s .left) ≡ true) × (takes part right (s .right) ≡ true) × (samePins (s .left) (s .right) ≡ true)
 
   -- a write is asked only while both show room; levels and pins being the same, what one is asked both are
   abbrev pub RoomHeeded : Type 0

@@ -7,8 +7,8 @@ use mathlib.Core.Path.{_≡_, refl, sym, ap, subst, _∙_}
 use Rattle.chip.specs.Reset.{selectedMode}
 use Rattle.counts.specs.declared.part.Part.{Part}
 use Rattle.fifo.specs.declared.sample.Outcome.the-variants.{Taken}
-use Rattle.pair.specs.Composite.{compositeOf, level}
-use Rattle.pair.specs.Two.{Two, two}
+use Rattle.halves.specs.Composite.{compositeOf, level}
+use Rattle.halves.specs.Two.{Two, two}
 use Rattle.pins.specs.Record.{bit}
 use Rattle.history.specs.AnswerLaws.{room-answered, word-answered}
 use Rattle.history.specs.Asked.{ShowsRoom, ShowsWord}

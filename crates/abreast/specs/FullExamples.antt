@@ -3,7 +3,7 @@ use Prim.Native.Nat.{ℕ}
 use mathlib.Core.Bool.{true, false}
 use mathlib.Core.List.{List, [], _∷_}
 use mathlib.Core.Path.{_≡_, refl, _∙_}
-use Rattle.pair.specs.Two.{two}
+use Rattle.halves.specs.Two.{two}
 use Rattle.history.specs.Asked.{readsWord, takenNext}
 use Rattle.history.specs.Tight.{tried}
 use Rattle.abreast.specs.Abreast.{Records}

@@ -1,6 +1,5 @@
 pub mod Abreast
 pub mod Pairing
-pub mod PinLaws
 pub mod PairingLaws
 pub mod RunLaws
 pub mod EachHalf

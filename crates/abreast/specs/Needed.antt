@@ -12,12 +12,12 @@ use Rattle.chip.specs.Reset.{selectedMode}
 use Rattle.counts.specs.declared.part.Part.{Part}
 use Rattle.counts.specs.declared.part.Part.the-variants.{Idt72V255LA as part255}
 use Rattle.counts.specs.Part.{depthOf}
-use Rattle.pair.specs.Composite.{compositeOf, level}
+use Rattle.halves.specs.Composite.{compositeOf, level}
 use Rattle.fifo.specs.Sample.{recordRefusal}
-use Rattle.pair.specs.Refuse.{numbered, pairRefusal, samePins}
+use Rattle.halves.specs.Refuse.{numbered, pairRefusal}
 use Rattle.pair.specs.Sample.{After, isTaken}
 use Rattle.pair.specs.SampleLaws.{step-numbered}
-use Rattle.pair.specs.Two.{Two, two}
+use Rattle.halves.specs.Two.{Two, two}
 use Rattle.pins.specs.Record.{bit}
 use Rattle.history.specs.Asked.{ShowsRoom, ShowsWord, takenNext}
 use Rattle.history.specs.Onlooker.{tellsFull, tellsReady}
@@ -45,8 +45,7 @@ module _ (part : Part) (b : Pairing) (g : Paired part b) (x : Records) (taken : 
   free =
       let left : recordRefusal part (x .left) (b .left .state) ≡ 0 = eqb-true _ _ (sym (takes-free part (b .left) (g .leftCounts) (g .left) (x .left)) ∙ taken .0) in
       let right : recordRefusal part (x .right) (b .right .state) ≡ 0 = eqb-true _ _ (sym (takes-free part (b .right) (g .rightCounts) (g .right) (x .right)) ∙ taken .1) in
-      let same : samePins (x .left) (x .right) ≡ true = eq-eqb _ _ (taken .2) in
-      λ i. numbered (same i) (left i) (right i)
+      λ i. numbered (taken .2 i) (left i) (right i)
 
   pair-takes : pairTakes part b x ≡ true
   unfolding pairTakes

@@ -10,7 +10,7 @@ use mathlib.Core.Path.{_≡_, refl, sym, subst}
 use lib.ListN.{length}
 use Rattle.counts.specs.declared.part.Part.{Part}
 use Rattle.counts.specs.Part.{depthOf}
-use Rattle.pair.specs.Two.{Two, two}
+use Rattle.halves.specs.Two.{Two, two}
 use Rattle.history.specs.Asked.{takenNext}
 use Rattle.history.specs.Trace.{powerUp}
 use Rattle.abreast.specs.Abreast.{Abreast, Records}

@@ -1,13 +1,12 @@
 -- What is seen of a trace on two parts, as tests, which compute.
-use Prim.Native.Nat.{ℕ, _/_, _^_}
+use Prim.Native.Nat.{ℕ}
 use mathlib.Core.Bool.{Bool, true, false, not, _&&_, _||_, and-eq-true-iff, true≢false}
 use mathlib.Core.List.{List, [], _∷_}
 use mathlib.Core.Path.{_≡_, refl, sym}
-use lib.Dec.{eqb}
 use lib.ListN.{length}
-use borrow.Author.Tests.{eqb-true}
 use Rattle.counts.specs.declared.part.Part.{Part}
 use Rattle.counts.specs.declared.part.Part.the-variants.{Idt72V255LA as part255}
+use Rattle.halves.specs.Refuse.{samePins}
 use Rattle.pins.specs.Record.{pinsOf}
 use Rattle.history.specs.Asked.{takenNext}
 use Rattle.history.specs.Onlooker.{asksRead, asksWrite, full, ready}
@@ -51,7 +50,7 @@ module _ (part : Part) where
   asksToRead left s = asksRead (left .notes) (pinsOf (s .left))
 
   abbrev pub takenSame : Moment → Moment → Records → Bool
-  takenSame left right s = takes part left (s .left) && takes part right (s .right) && eqb (s .left / 2 ^ 21) (s .right / 2 ^ 21)
+  takenSame left right s = takes part left (s .left) && takes part right (s .right) && samePins (s .left) (s .right)
 
   -- with so many words taken before
   unfoldable pub seenFrom : Moment → ℕ → Moment → ℕ → List Records → Seen
@@ -80,9 +79,9 @@ module _ (part : Part) where
   module _ (left right : Moment) (s : Records) where
     pub taken-told : takenSame left right s ≡ true → TakenSame part left right s
     taken-told e =
-        let both = and-eq-true-iff (takes part left (s .left) && takes part right (s .right)) (eqb (s .left / 2 ^ 21) (s .right / 2 ^ 21)) .0 e in
+        let both = and-eq-true-iff (takes part left (s .left) && takes part right (s .right)) (samePins (s .left) (s .right)) .0 e in
         let taken = and-eq-true-iff (takes part left (s .left)) (takes part right (s .right)) .0 (both .0) in
-        (taken .0, taken .1, eqb-true _ _ (both .1))
+        (taken .0, taken .1, both .1)
 
     pub room-told : only (asksToWrite left s) (showsRoom left && showsRoom right) ≡ true → RoomHeeded part left right s
     room-told e asked =

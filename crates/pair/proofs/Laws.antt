@@ -14,12 +14,12 @@ use Rattle.fifo.specs.Sample as single
 use Rattle.pins.specs.declared.record.Pins.{Pins}
 use Rattle.pins.specs.Record.{pinsOf}
 use Rattle.pair.specs.declared.sample.Sampled.{Sampled}
-use Rattle.pair.specs.declared.state.Halves.{Halves}
-use Rattle.pair.specs.Refuse.{pairRefusal}
+use Rattle.halves.specs.declared.state.Halves.{Halves}
+use Rattle.halves.specs.Refuse.{pairRefusal}
 use Rattle.pair.specs.Sample.{After, Gives, Samples, Steps, both, joined, numberOf, pairSampled, pairStepped, turnedAway}
 use Rattle.pair.specs.SampleLaws.{Numbered, sample-is-step, sample-numbered, step-numbered, step-takes}
-use Rattle.pair.specs.State.{passesBoth}
-use Rattle.pair.specs.Two.{Two, two}
+use Rattle.halves.specs.State.{passesBoth}
+use Rattle.halves.specs.Two.{Two, two}
 
 -- what each part gives by itself, side by side
 pub gives-both : {a b : single.After} {left right : fifo.Sampled} {m n : List ℕ} {r : Sampled} → r ≡ joined left right

@@ -1,7 +1,7 @@
 -- Two parts side by side: which number one sample gets, in the order 1, 2, 3, 4, 11, the left part's own, the right part's own. Part numbers
 -- and depths stand in plain figures, so that a definition that says another is refused here.
 use Prim.Native.Nat.{ℕ, _/_, _^_}
-use mathlib.Core.Bool.{Bool, true, false, cond, and-false, or-true}
+use mathlib.Core.Bool.{Bool, true, false, cond, and-false}
 use mathlib.Core.Logic.{_≢_}
 use mathlib.Core.Path.{_≡_, _∙_}
 use borrow.Author.Tests.{eq-eqb, ne-eqb}
@@ -12,12 +12,12 @@ use Rattle.fifo.specs.NumberLaws.{askedBy, known, same-depth, wordsIn}
 use Rattle.pins.specs.Record.{bit, pinsOf}
 use Rattle.refusals.specs.Refuse.{refusalOf}
 use Rattle.sides.specs.declared.read.Mode.the-variants.{Standard, Fwft}
-use Rattle.pair.specs.declared.state.Halves.{Halves}
-use Rattle.pair.specs.Refuse.{firstOf, pairRefusal}
-use Rattle.pair.specs.RefuseLaws.{by-pins, four-is-spare, pins-not-four}
+use Rattle.halves.specs.declared.state.Halves.{Halves}
+use Rattle.halves.specs.Refuse.{firstOf, pairRefusal}
+use Rattle.halves.specs.RefuseLaws as refuse
 use Rattle.pair.specs.Sample.{pairSampleRefusal}
-use Rattle.pair.specs.State.{passesBoth}
-use Rattle.pair.specs.Two.{Two}
+use Rattle.halves.specs.State.{passesBoth}
+use Rattle.halves.specs.Two.{Two}
 
 module _ (x : Two ℕ) (h : Halves) (words : Two ℕ) where
   pub one-comes : (number : ℕ) → number ≢ 255 → number ≢ 265 → pairSampleRefusal number x h words ≡ 1
@@ -63,26 +63,18 @@ module _ (x : Two ℕ) (h : Halves) (words : Two ℕ) where
         by-records = tested ∙ simp passed
 
         pub four-by-left : bit 18 (x .left) ≡ true → pairSampleRefusal (askedBy part) x h words ≡ 4
-        unfolding pairRefusal
-        four-by-left set = by-records ∙ simp (four-is-spare part (x .left) (h .left), set)
+        four-by-left set = by-records ∙ refuse.four-by-left part x h set
 
         pub four-by-right : bit 18 (x .right) ≡ true → pairSampleRefusal (askedBy part) x h words ≡ 4
-        unfolding pairRefusal
-        four-by-right set = by-records ∙ simp (four-is-spare part (x .right) (h .right), set, or-true)
+        four-by-right set = by-records ∙ refuse.four-by-right part x h set
 
         module _ (left-clear : bit 18 (x .left) ≡ false) (right-clear : bit 18 (x .right) ≡ false) where
           pub eleven-comes : x .left / 2 ^ 21 ≢ x .right / 2 ^ 21 → pairSampleRefusal (askedBy part) x h words ≡ 11
-          unfolding pairRefusal
-          eleven-comes n =
-              by-records
-              ∙ simp (four-is-spare part (x .left) (h .left), left-clear, four-is-spare part (x .right) (h .right), right-clear, ne-eqb (x .left / 2 ^ 21) (x .right / 2 ^ 21) n)
+          eleven-comes n = by-records ∙ refuse.eleven-comes part x h left-clear right-clear n
 
           module _ (same : x .left / 2 ^ 21 ≡ x .right / 2 ^ 21) where
             by-parts : pairSampleRefusal (askedBy part) x h words ≡ firstOf (refusalOf part (pinsOf (x .left)) (h .left)) (refusalOf part (pinsOf (x .right)) (h .right))
-            unfolding pairRefusal
-            by-parts =
-                by-records
-                ∙ simp (by-pins part (x .left) (h .left) left-clear, by-pins part (x .right) (h .right) right-clear, pins-not-four part (pinsOf (x .left)) (h .left), pins-not-four part (pinsOf (x .right)) (h .right), eq-eqb (x .left / 2 ^ 21) (x .right / 2 ^ 21) same)
+            by-parts = by-records ∙ refuse.then-by-parts part x h left-clear right-clear same
 
             -- 5 to 10 by the left part
             pub left-comes : refusalOf part (pinsOf (x .left)) (h .left) ≢ 0

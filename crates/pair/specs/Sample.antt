@@ -14,10 +14,10 @@ use Rattle.pins.specs.Answer.{putAnswer}
 use Rattle.pair.specs.declared.sample.Outcome.{Outcome}
 use Rattle.pair.specs.declared.sample.Outcome.the-variants.{Taken, Refused}
 use Rattle.pair.specs.declared.sample.Sampled.{Sampled}
-use Rattle.pair.specs.declared.state.Halves.{Halves}
-use Rattle.pair.specs.Refuse.{pairRefusal}
-use Rattle.pair.specs.State.{passesBoth}
-use Rattle.pair.specs.Two.{Two, two}
+use Rattle.halves.specs.declared.state.Halves.{Halves}
+use Rattle.halves.specs.Refuse.{pairRefusal}
+use Rattle.halves.specs.State.{passesBoth}
+use Rattle.halves.specs.Two.{Two, two}
 
 -- what an outcome stands for: its number, 0 where the sample is taken
 abbrev pub numberOf : Outcome → ℕ

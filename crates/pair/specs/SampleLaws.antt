@@ -20,11 +20,11 @@ use Rattle.fifo.specs.Sample.{answerIn, isDepth, recordRefusal, stepped, taken}
 use Rattle.fifo.specs.SampleLaws as single-laws
 use Rattle.pins.specs.Record.{pinsOf}
 use Rattle.pair.specs.declared.sample.Outcome.the-variants.{Taken, Refused}
-use Rattle.pair.specs.declared.state.Halves.{Halves}
-use Rattle.pair.specs.Refuse.{pairRefusal, samePins}
+use Rattle.halves.specs.declared.state.Halves.{Halves}
+use Rattle.halves.specs.Refuse.{pairRefusal, samePins}
 use Rattle.pair.specs.Sample.{After, both, isTaken, numberOf, pairSampled, pairSampleRefusal, pairStepped, turnedAway}
-use Rattle.pair.specs.State.{passesBoth}
-use Rattle.pair.specs.Two.{Two, two}
+use Rattle.halves.specs.State.{passesBoth}
+use Rattle.halves.specs.Two.{Two, two}
 
 free-by : (four same free : Bool) (left right : ℕ) → eqb left 0 ≡ free → cond four 4 (cond same (cond free right left) 11) ≡ 0
     → (left ≡ 0) × (right ≡ 0) × (same ≡ true)

@@ -3,12 +3,12 @@ ghost use Rattle.chip.specs.State.{widths};
 ghost use Rattle.fifo.specs.Sample.{isDepth};
 ghost use Rattle.pair.specs.Sample.{Samples, Steps, joined};
 ghost use Rattle.pair.specs.Still.{heldBoth, stillBoth};
-ghost use Rattle.pair.specs.Two.{two};
+ghost use Rattle.halves.specs.Two.{two};
 ghost use mathlib.Core.Bool.{_&&_, true};
 ghost use mathlib.Core.Path.{_≡_};
-use super::state::Halves;
 use counts::part::Lookup;
 use counts::part::Part;
+use halves::state::Halves;
 
 // Taken with both packed answers, or refused with its number.
 pub enum Outcome {
@@ -38,7 +38,7 @@ pub fn sample(
     if !are_depth(known, left_memory.len(), right_memory.len()) {
         return turn_away(2, state);
     }
-    if !super::state::passes_test(known, state) {
+    if !halves::state::passes_test(known, state) {
         return turn_away(3, state);
     }
     step(known, left, right, state, left_memory, right_memory)
@@ -65,7 +65,7 @@ pub fn step(
     if are_still(left, right, state) {
         return hold(part, left, right, state);
     }
-    let number = super::refuse::refusal(part, left, right, state);
+    let number = halves::refuse::refusal(part, left, right, state);
     if number != 0 {
         return turn_away(number, state);
     }
@@ -78,7 +78,7 @@ pub fn step(
 fn are_still(left: u32, right: u32, state: Halves) -> bool
     ensures { λ r. ⌜ r ≡ stillBoth (two left right) state ⌝ }
 {
-    super::refuse::is_same_pins(left, right)
+    halves::refuse::is_same_pins(left, right)
         & fifo::sample::is_still(left, state.left)
         & fifo::sample::is_still(right, state.right)
 }

@@ -1,7 +1,7 @@
 use denote.Ref.{now}
 use borrow.Author.Needs.{needs}
-use Rattle.pair.specs.StateLaws.{tested-both-widths}
-use Rattle.pair.specs.Two.{two}
+use Rattle.halves.specs.StateLaws.{tested-both-widths}
+use Rattle.halves.specs.Two.{two}
 use Rattle.pair.proofs.Laws.{gives-refusal, passed, sample-length, sample-state, sample-steps, sample-unknown, samples-by}
 use Rattle.pair.proofs.sample.sample.Statement.{statement}
 use Rattle.pair.proofs.sample.sample.Tie as tie

@@ -2,7 +2,7 @@ use denote.Ref.{now}
 use mathlib.Core.Path.{sym, refl, _∙_}
 use borrow.Author.Needs.{needs}
 use Rattle.pair.specs.StillLaws.{still-stepped-both}
-use Rattle.pair.specs.Two.{two}
+use Rattle.halves.specs.Two.{two}
 use Rattle.pair.proofs.Laws.{gives-both, gives-refusal, stepped-refuses, stepped-takes, steps-by}
 use Rattle.pair.proofs.sample.step.Statement.{statement}
 use Rattle.pair.proofs.sample.step.Tie as tie

@@ -7,8 +7,8 @@ use Rattle.chip.specs.State.{passes, widths}
 use Rattle.chip.specs.Widths.{tested-widths}
 use Rattle.counts.specs.declared.part.Part.{Part}
 use Rattle.counts.specs.Both.{both}
-use Rattle.pair.specs.declared.state.Halves.{Halves}
-use Rattle.pair.specs.State.{alike, passesBoth, poweredUpBoth}
+use Rattle.halves.specs.declared.state.Halves.{Halves}
+use Rattle.halves.specs.State.{alike, passesBoth, poweredUpBoth}
 
 pub alike-same : (left right : Bool) → alike left right ≡ true → left ≡ right
 alike-same true true e = refl

@@ -1,7 +1,7 @@
-use Rattle.pair.specs.Composite.{compositeOf}
+use Rattle.halves.specs.Composite.{compositeOf}
 use borrow.Author.Needs.{needs}
-use Rattle.pair.proofs.composite.compose.Statement.{statement}
-use Rattle.pair.proofs.composite.compose.Tie as tie
+use Rattle.halves.proofs.composite.compose.Statement.{statement}
+use Rattle.halves.proofs.composite.compose.Tie as tie
 
 returns : tie.Need-returns
 unfolding compositeOf

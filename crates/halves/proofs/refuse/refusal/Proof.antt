@@ -1,8 +1,8 @@
-use Rattle.pair.specs.Refuse.{pairRefusal}
+use Rattle.halves.specs.Refuse.{pairRefusal}
 use borrow.Author.Needs.{needs}
 use borrow.Author.Tests.{eq-eqb, ne-eqb}
-use Rattle.pair.proofs.refuse.refusal.Statement.{statement}
-use Rattle.pair.proofs.refuse.refusal.Tie as tie
+use Rattle.halves.proofs.refuse.refusal.Statement.{statement}
+use Rattle.halves.proofs.refuse.refusal.Tie as tie
 
 returns : tie.Need-returns
 unfolding pairRefusal

@@ -5,7 +5,7 @@ use Rattle.chip.specs.Reset.{poweredUp}
 use Rattle.chip.specs.ResetLaws.{isFwft}
 use Rattle.chip.specs.State.{passes}
 use Rattle.counts.specs.declared.part.Part.{Part}
-use Rattle.pair.specs.declared.state.Halves.{Halves}
+use Rattle.halves.specs.declared.state.Halves.{Halves}
 
 abbrev pub poweredUpBoth : Halves
 poweredUpBoth = record { left = poweredUp; right = poweredUp }

@@ -1,7 +1,7 @@
-use Rattle.pair.specs.State.{passesBoth}
+use Rattle.halves.specs.State.{passesBoth}
 use borrow.Author.Needs.{needs}
-use Rattle.pair.proofs.state.passes_test.Statement.{statement}
-use Rattle.pair.proofs.state.passes_test.Tie as tie
+use Rattle.halves.proofs.state.passes_test.Statement.{statement}
+use Rattle.halves.proofs.state.passes_test.Tie as tie
 
 returns : tie.Need-returns
 unfolding passesBoth

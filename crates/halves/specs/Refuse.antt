@@ -5,8 +5,8 @@ use mathlib.Core.Path.{_≡_}
 use lib.Dec.{eqb}
 use Rattle.counts.specs.declared.part.Part.{Part}
 use Rattle.fifo.specs.Sample.{recordRefusal}
-use Rattle.pair.specs.declared.state.Halves.{Halves}
-use Rattle.pair.specs.Two.{Two, two}
+use Rattle.halves.specs.declared.state.Halves.{Halves}
+use Rattle.halves.specs.Two.{Two, two}
 
 -- every pin but D and the two skew marks: bits 31 to 21
 abbrev pub samePins : ℕ → ℕ → Bool

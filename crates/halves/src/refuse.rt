@@ -1,5 +1,5 @@
 // What is turned away, from 4 on, of two records for two parts side by side.
-ghost use Rattle.pair.specs.Refuse.{RefusesPair, samePins};
+ghost use Rattle.halves.specs.Refuse.{RefusesPair, samePins};
 ghost use mathlib.Core.Path.{_≡_};
 use super::state::Halves;
 use counts::part::Part;
@@ -20,7 +20,7 @@ pub fn refusal(part: Part, left: u32, right: u32, state: Halves) -> u8
 }
 
 // D and the two skew marks stand below bit 21, every other pin from there on.
-pub(crate) fn is_same_pins(left: u32, right: u32) -> bool
+pub fn is_same_pins(left: u32, right: u32) -> bool
     ensures { λ r. ⌜ r ≡ samePins left right ⌝ }
 {
     left / 2097152 == right / 2097152

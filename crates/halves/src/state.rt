@@ -1,6 +1,6 @@
 // The state of two parts side by side, and the test of 3.
 ghost use Rattle.chip.specs.ResetLaws.{isFwft};
-ghost use Rattle.pair.specs.State.{PoweredUp, Tested};
+ghost use Rattle.halves.specs.State.{PoweredUp, Tested};
 ghost use mathlib.Core.Path.{_≡_};
 use chip::state::State;
 use counts::part::Part;

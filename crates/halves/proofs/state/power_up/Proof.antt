@@ -1,6 +1,6 @@
 use borrow.Author.Needs.{needs}
-use Rattle.pair.proofs.state.power_up.Statement.{statement}
-use Rattle.pair.proofs.state.power_up.Tie as tie
+use Rattle.halves.proofs.state.power_up.Statement.{statement}
+use Rattle.halves.proofs.state.power_up.Tie as tie
 
 returns : tie.Need-returns
 returns c = simp (c .power-up2 .ensures, c .before .power-up .ensures)
