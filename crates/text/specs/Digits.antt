@@ -4,9 +4,9 @@ use mathlib.Core.Bool.{cond}
 use mathlib.Core.List.{List}
 use mathlib.Core.Path.{_≡_}
 use lib.Dec.{ltb}
-use lib.ListN.{getD, length, set}
-use lib.Seq.{paste}
+use lib.ListN.{set}
 use Rattle.io.specs.Digits.{Fewest, digits}
+use Rattle.text.specs.Bytes.{putText}
 
 -- the ASCII code of a digit below 16, in capitals
 abbrev pub hexDigit : ℕ → ℕ
@@ -14,9 +14,6 @@ hexDigit value = cond (ltb value 10) (48 + value) (55 + value)
 
 unfoldable pub putHex : List ℕ → ℕ → ℕ → List ℕ
 putHex room at byte = set (set room at (hexDigit (byte / 16))) (at + 1) (hexDigit (byte % 16))
-
-abbrev pub putText : List ℕ → ℕ → List ℕ → List ℕ
-putText room at text = paste room at text (length text)
 
 -- the decimal digits of a value, and no more of them than it takes, up to the place `end`
 pub record PutsDecimal (room : List ℕ) (at value : ℕ) (room′ : List ℕ) (end : ℕ) : Type 0 where

@@ -1,8 +1,8 @@
 use borrow.Author.Needs.{needs}
 use borrow.Author.Tests.{le-ltb, lt-ltb}
-use Rattle.lines.specs.Header.{numberOf}
-use Rattle.lines.proofs.header.part_number.Statement.{statement}
-use Rattle.lines.proofs.header.part_number.Tie as tie
+use Rattle.input.specs.Header.{numberOf}
+use Rattle.input.proofs.header.part_number.Statement.{statement}
+use Rattle.input.proofs.header.part_number.Tie as tie
 
 returns : tie.Need-returns
 unfolding numberOf
@@ -13,8 +13,8 @@ unfolding numberOf
 returns-2 c =
     simp (
       le-ltb _ _ (c .before .before .before .before .if1 .left),
-      c .before .before .from-byte .ensures .0,
-      c .from-byte2 .ensures .0,
+      c .before .before .wide .ensures .0,
+      c .wide2 .ensures .0,
     )
 
 pub part-number-spec : {M : Type 1} → statement M

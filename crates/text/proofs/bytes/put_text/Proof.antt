@@ -6,8 +6,8 @@ use lib.ListN.{getD, length, set}
 use lib.Seq.{paste, paste-suc, paste-zero}
 use mathlib.Core.List.{List}
 use mathlib.Core.Path.{_≡_, _∙_, ap, refl}
-use Rattle.lines.proofs.text.put_text.Statement.{statement}
-use Rattle.lines.proofs.text.put_text.Tie as tie
+use Rattle.text.proofs.bytes.put_text.Statement.{statement}
+use Rattle.text.proofs.bytes.put_text.Tie as tie
 
 abbrev Inv-loop : tie.InvT-loop
 Inv-loop room₀ at text i₀ room i = (length room ≡ length room₀) × (i ≤ length text) × (room ≡ paste room₀ at text i)

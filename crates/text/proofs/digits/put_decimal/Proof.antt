@@ -5,9 +5,9 @@ use Prim.Native.Nat.{ℕ, _-_, _^_, _<_, _≤_}
 use denote.Ref.{now}
 use mathlib.Core.Path.{_∙_, ap}
 use Rattle.io.specs.Digits.{Fewest}
-use Rattle.lines.specs.Text.{putText}
-use Rattle.lines.proofs.text.put_decimal.Statement.{statement}
-use Rattle.lines.proofs.text.put_decimal.Tie as tie
+use Rattle.text.specs.Bytes.{putText}
+use Rattle.text.proofs.digits.put_decimal.Statement.{statement}
+use Rattle.text.proofs.digits.put_decimal.Tie as tie
 
 more-than-twenty : (n k : ℕ) → n < 2 ^ 64 → Fewest 10 1 n k → 21 ≤ k → ⊥
 more-than-twenty n k b f l = omega (arith, f .2 (omega arith), pow-le-pow-right {n = 10} (omega arith) {i = 20} {j = k - 1} (omega arith))

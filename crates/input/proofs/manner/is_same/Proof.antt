@@ -2,8 +2,8 @@ use borrow.Author.Needs.{needs}
 use Prim.Native.Nat.{_-_, _≤_}
 use lib.ListN.{length}
 use mathlib.Core.Path.{_≡_}
-use Rattle.lines.proofs.manner.is_same.Statement.{statement}
-use Rattle.lines.proofs.manner.is_same.Tie as tie
+use Rattle.input.proofs.manner.is_same.Statement.{statement}
+use Rattle.input.proofs.manner.is_same.Tie as tie
 
 abbrev Inv-loop : tie.InvT-loop
 Inv-loop word other i₀ i = (i ≤ length word) × (length word ≡ length other)

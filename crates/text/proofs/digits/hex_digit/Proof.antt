@@ -1,7 +1,7 @@
 use borrow.Author.Needs.{needs}
 use borrow.Author.Tests.{le-ltb, lt-ltb}
-use Rattle.lines.proofs.text.hex_digit.Statement.{statement}
-use Rattle.lines.proofs.text.hex_digit.Tie as tie
+use Rattle.text.proofs.digits.hex_digit.Statement.{statement}
+use Rattle.text.proofs.digits.hex_digit.Tie as tie
 
 returns : tie.Need-returns
 returns c = simp (lt-ltb _ _ (c .if1 .taken))

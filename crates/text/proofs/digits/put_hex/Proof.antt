@@ -1,7 +1,7 @@
 use borrow.Author.Needs.{needs}
-use Rattle.lines.specs.Text.{putHex}
-use Rattle.lines.proofs.text.put_hex.Statement.{statement}
-use Rattle.lines.proofs.text.put_hex.Tie as tie
+use Rattle.text.specs.Digits.{putHex}
+use Rattle.text.proofs.digits.put_hex.Statement.{statement}
+use Rattle.text.proofs.digits.put_hex.Tie as tie
 
 returns : tie.Need-returns
 unfolding putHex
