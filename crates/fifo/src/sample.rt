@@ -61,7 +61,8 @@ pub fn is_still(record: u32, state: State) -> bool
     !is_bit_18_set(record) & state.started & chip::quiet::is_quiet(p, state)
 }
 
-fn hold(part: Part, p: Pins, state: State) -> Sampled
+// What such a record gives.
+pub fn hold(part: Part, p: Pins, state: State) -> Sampled
     ensures { λ r. ⌜ r ≡ record { outcome = Outcome.Taken (answerOf part p state); state = held p state } ⌝ }
 {
     let answer = chip::answer::answer(part, p, state);
@@ -107,7 +108,8 @@ fn is_bit_18_set(record: u32) -> bool
     (record >> 18) % 2 == 1
 }
 
-fn take(part: Part, p: Pins, state: State, memory: &mut [u32]) -> Sampled
+// What a record that is not refused gives.
+pub fn take(part: Part, p: Pins, state: State, memory: &mut [u32]) -> Sampled
     requires { ⌜ widths part state ≡ true ⌝ }
     ensures { λ r. ⌜ Gives (taken part p state (now (memory .entry))) r (now (memory .exit)) ⌝ }
 {

@@ -1,0 +1,6 @@
+pub mod Two
+pub mod State
+pub mod Composite
+pub mod Refuse
+pub mod Sample
+pub mod Still

@@ -1,0 +1,47 @@
+// The state of two parts side by side, and the test of 3.
+ghost use Rattle.chip.specs.ResetLaws.{isFwft};
+ghost use Rattle.pair.specs.State.{PoweredUp, Tested, alike};
+ghost use mathlib.Core.Path.{_≡_};
+use chip::state::State;
+use counts::part::Part;
+use sides::read::Mode;
+
+pub struct Halves {
+    pub left: State,
+    pub right: State,
+}
+
+pub fn power_up() -> Halves
+    ensures { λ r. ⌜ PoweredUp r ⌝ }
+{
+    let left = chip::reset::power_up();
+    let right = chip::reset::power_up();
+    Halves {
+        left: left,
+        right: right,
+    }
+}
+
+pub fn passes_test(part: Part, state: Halves) -> bool
+    ensures { λ r. ⌜ Tested part state r ⌝ }
+{
+    let left = state.left;
+    let right = state.right;
+    let passed = chip::state::passes_test(part, left) & chip::state::passes_test(part, right);
+    passed & is_alike(is_fwft(left.read.mode), is_fwft(right.read.mode))
+}
+
+fn is_fwft(mode: Mode) -> bool
+    ensures { λ r. ⌜ r ≡ isFwft mode ⌝ }
+{
+    match mode {
+        Mode::Standard => false,
+        Mode::Fwft { untaken: _ } => true,
+    }
+}
+
+fn is_alike(left: bool, right: bool) -> bool
+    ensures { λ r. ⌜ r ≡ alike left right ⌝ }
+{
+    if left { right } else { !right }
+}
