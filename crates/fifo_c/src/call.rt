@@ -85,7 +85,7 @@ fn hold(part: Part, word: u32, state: &mut [u8], answer: &mut [u8])
     let p = pins::record::decode(word);
     let s = spelling::state::read_state(state);
     let given = chip::answer::answer(part, p, s);
-    notes::outcome::put_answer(answer, 0, given);
+    notes::answers::put_answer(answer, 0, given);
     spelling::state::put_clocks(p.wclk, p.rclk, state);
 }
 
@@ -118,7 +118,7 @@ fn take(part: Part, word: u32, state: &mut [u8], memory: &mut [u8], answer: &mut
     buffers::memory::put_away(store, memory);
     let next = advanced.state;
     spelling::state::write_state(next, state);
-    notes::outcome::put_answer(answer, 0, advanced.answer);
+    notes::answers::put_answer(answer, 0, advanced.answer);
 }
 
 fn number_of(verdict: Verdict) -> u32

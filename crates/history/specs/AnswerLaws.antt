@@ -2,6 +2,7 @@
 use Prim.Native.Nat.{ℕ, _+_, _*_, _/_, _%_, _^_, _<_}
 use mathlib.Core.Bool.{Bool, true, false, cond}
 use mathlib.Core.List.{List}
+use mathlib.Core.Logic.{_↔_}
 use mathlib.Core.Path.{_≡_, refl, sym, ap, subst, _∙_}
 use lib.Dec.{eqb}
 use lib.ListN.{getD, length, length-set, set}
@@ -20,9 +21,11 @@ use Rattle.fifo.specs.declared.sample.Outcome.the-variants.{Taken}
 use Rattle.pins.specs.Answer.{putAnswer}
 use Rattle.fifo.specs.Sample.{After, numberOf, recordRefusal, stepped, taken, turnedAway}
 use Rattle.pins.specs.declared.record.Pins.{Pins}
-use Rattle.pins.specs.Record.{pinsOf}
+use Rattle.pins.specs.Record.{bit, pinsOf}
 use Rattle.views.specs.TrueCounts.{TrueCounts}
+use Rattle.history.specs.Asked.{ShowsRoom, ShowsWord}
 use Rattle.history.specs.LedLaws.{countsNext, sample-steps, told-next}
+use Rattle.history.specs.Onlooker.{tellsFull, tellsReady}
 use Rattle.history.specs.Told.{Told}
 use Rattle.history.specs.Trace.{Answers, Moment, answerAt, next, outcome, shownBy}
 
@@ -66,6 +69,14 @@ module _ (part : Part) (m : Moment) (t : TrueCounts) (g : Told part m t) (x : �
       let same : Taken answer ≡ Taken (answerOf part (pinsOf x) (next part m x .state)) = sym e ∙ taken-answer (ap numberOf e) in
       let own : answerOf part (pinsOf x) (next part m x .state) ≡ answer = cc in
       subst (Answers part (pinsOf x) (next part m x .state)) own answers-next
+
+  -- with the mode after the sample, the answer's bits of FF/IR and EF/OR tell a user whether the part shows room, and a word ready
+  module _ (answer : ℕ) (given : outcome part m x .sampled .outcome ≡ Taken answer) where
+    pub room-answered : let after = next part m x in (tellsFull (after .notes .fwft) (bit 23 answer) ≡ false) ↔ ShowsRoom part after
+    room-answered = rw (answers-taken answer given .ff) (λ e. e, λ e. e)
+
+    pub word-answered : let after = next part m x in (tellsReady (after .notes .fwft) (bit 22 answer) ≡ true) ↔ ShowsWord part after
+    word-answered = rw (answers-taken answer given .ef) (λ e. e, λ e. e)
 
 pub put-length : (room : List ℕ) (index answer : ℕ) → length (putAnswer room index answer) ≡ length room
 unfolding putAnswer

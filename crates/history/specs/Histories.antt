@@ -11,7 +11,6 @@ use mathlib.Core.Logic.{_≢_}
 use mathlib.Core.Path.{_≡_, refl, sym, ap, subst, _∙_}
 use lib.ListN.{drop, length, length-replicate, take}
 use native.Mathlib.Omega.{arith}
-use Rattle.chip.specs.declared.state.State.{State}
 use Rattle.refusals.specs.ReachLaws.{reached-passes}
 use Rattle.chip.specs.State.{passes, wordsHeld}
 use Rattle.counts.specs.declared.part.Part.{Part}
@@ -28,11 +27,12 @@ use Rattle.spelling.specs.ReadBackLaws.{Spelled}
 use Rattle.pins.specs.Record.{bit, pinsOf}
 use Rattle.pins.specs.Trace.{wordAt}
 use Rattle.history.specs.AnswerLaws.{answers-taken}
+use Rattle.history.specs.Asked.{ShowsWord}
 use Rattle.history.specs.CallLaws.{Spells, call-answers, call-not-three, calls-lead, powered-spells, words-deep}
 use Rattle.history.specs.Calls.{Asked, Buffers, callAll, callOf, isSample, poweredOn, samplesOf}
 use Rattle.history.specs.KeptLaws.{delivered-ready, depth-at-most, first-delivered, register-last, remainder-in-memory}
 use Rattle.history.specs.LedLaws.{outcome-not-three, told-after}
-use Rattle.history.specs.Onlooker.{lastOf, ready, tellsReady}
+use Rattle.history.specs.Onlooker.{lastOf, tellsReady}
 use Rattle.history.specs.RunAnswerLaws.{run-answers}
 use Rattle.history.specs.RunLaws.{led-parts, run-led, run-not-three}
 use Rattle.history.specs.Tight.{fwftReset, late-fwft, late-standard, risenThrice, risenTwice, standardReset, watched, wordWritten, zeros}
@@ -63,16 +63,12 @@ pub record Waiting (standard fwft : ℕ) (part : Part) (before : Moment) (x : �
   pub risen : cond (led part (next part before x) later .notes .fwft) fwft standard ≤ rclkRisesIn part (next part before x) later
   pub undelivered : length (led part (next part before x) later .notes .delivered) ≤ length (before .notes .accepted)
 
--- The flag shows a word ready, by a mode and a state.
-abbrev pub Ready : Part → Bool → State → Type 0
-Ready part fwft s = ready fwft (shownBy part s) ≡ true
-
 -- After each sample for as long as a word waits, the flag shows one ready.
 abbrev pub InTime : ℕ → ℕ → Type 0
 InTime standard fwft =
     (part : Part) (memory : List ℕ) → length memory ≡ depthOf part → (earlier : List ℕ) (x : ℕ) (later : List ℕ)
     → Waiting standard fwft part (led part (powerUp memory) earlier) x later
-    → let after = led part (next part (led part (powerUp memory) earlier) x) later in Ready part (after .notes .fwft) (after .state)
+    → ShowsWord part (led part (next part (led part (powerUp memory) earlier) x) later)
 
 -- Single samples.
 pub kept : (part : Part) (memory : List ℕ) → length memory ≡ depthOf part → (samples : List ℕ) → Kept part (led part (powerUp memory) samples)
@@ -110,7 +106,7 @@ tells-by part memory whole samples y answer given earlier x later e w =
     let there : led part (next part start x) (later ++ (y ∷ [])) ≡ next part (led part (powerUp memory) samples) y =
     led-parts part later (y ∷ []) (next part start x)
     ∙ ap (λ (m : Moment). next part m y) (sym (ap (led part (powerUp memory)) e ∙ led-parts part earlier (x ∷ later) (powerUp memory))) in
-    rw (given .ef) (subst (λ (m : Moment). Ready part (m .notes .fwft) (m .state)) there (in-time part memory whole earlier x (later ++ (y ∷ [])) w))
+    rw (given .ef) (subst (ShowsWord part) there (in-time part memory whole earlier x (later ++ (y ∷ [])) w))
 
 -- What a taken sample is answered is what the onlooker sees after it, and tells in time.
 module _ (part : Part) (memory : List ℕ) (whole : length memory ≡ depthOf part) (samples : List ℕ) (y answer : ℕ)
@@ -146,7 +142,7 @@ not-at-third =
 module _ (part : Part) (memory : List ℕ) (whole : length memory ≡ depthOf part) where
   in-time-through : (samples earlier : List ℕ) (x : ℕ) (later : List ℕ) → samples ≡ earlier ++ (x ∷ later)
       → Waiting 3 4 part (led part (powerUp memory) earlier) x later
-      → let m = led part (powerUp memory) samples in Ready part (m .notes .fwft) (m .state)
+      → ShowsWord part (led part (powerUp memory) samples)
   unfolding led
   in-time-through samples earlier x later e w =
       rw (e, led-parts part earlier (x ∷ later) (powerUp memory)) (in-time part memory whole earlier x later w)
@@ -179,9 +175,9 @@ module _ (part : Part) (memory : List ℕ) (whole : length memory ≡ depthOf pa
 
       -- the state that it hands back is in time,
       pub run-ends-in-time : (earlier : List ℕ) (x : ℕ) (later : List ℕ) → worked ≡ earlier ++ (x ∷ later)
-          → Waiting 3 4 part (led part (powerUp memory) earlier) x later → Ready part (end .notes .fwft) (end .state)
+          → Waiting 3 4 part (led part (powerUp memory) earlier) x later → ShowsWord part end
       run-ends-in-time earlier x later e w =
-          subst (λ (m : Moment). Ready part (m .notes .fwft) (m .state)) (sym run-leads) (in-time-through worked earlier x later e w)
+          subst (ShowsWord part) (sym run-leads) (in-time-through worked earlier x later e w)
 
       -- and for each record before its end that is taken, what it wrote is that sample's answer, which tells in time
       module _ (i : ℕ) (past : i < r .index) where
@@ -218,7 +214,7 @@ module _ (part : Part) (state memory : List ℕ) (room : length state ≡ stateB
   call-kept = kept part (wordsIn memory) (words-deep part memory whole) (samplesOf calls)
 
   pub call-in-time : (earlier : List ℕ) (x : ℕ) (later : List ℕ) → samplesOf calls ≡ earlier ++ (x ∷ later)
-      → Waiting 3 4 part (led part (powerUp (wordsIn memory)) earlier) x later → Ready part (there .notes .fwft) (there .state)
+      → Waiting 3 4 part (led part (powerUp (wordsIn memory)) earlier) x later → ShowsWord part there
   call-in-time = in-time-through part (wordsIn memory) (words-deep part memory whole) (samplesOf calls)
 
   module _ (a : Asked) (is : isSample a ≡ true) (taken : callOf part buffers a .code ≡ 0) where

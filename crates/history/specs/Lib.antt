@@ -1,5 +1,6 @@
 pub mod Onlooker
 pub mod Trace
+pub mod Asked
 pub mod WordLaws
 pub mod Told
 pub mod EventLaws
@@ -7,6 +8,7 @@ pub mod KeptLaws
 pub mod WentOnLaws
 pub mod ToldLaws
 pub mod LedLaws
+pub mod TakenLaws
 pub mod AnswerLaws
 pub mod TimeLaws
 pub mod Crossing

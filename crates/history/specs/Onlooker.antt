@@ -40,9 +40,19 @@ wclkRises b p = outside p && (not (b .wclk) && p .wclk)
 abbrev pub rclkRises : Notes → Pins → Bool
 rclkRises b p = outside p && (not (b .rclk) && p .rclk)
 
--- FF LOW, or IR HIGH
+-- a write is asked, and a read, whether or not it then happens
+abbrev pub asksWrite : Notes → Pins → Bool
+asksWrite b p = wclkRises b p && p .ld && not (p .wen)
+
+abbrev pub asksRead : Notes → Pins → Bool
+asksRead b p = rclkRises b p && p .ld && not (p .ren) && p .rt
+
+-- no room: FF LOW, or IR HIGH
+abbrev pub tellsFull : Bool → Bool → Bool
+tellsFull fwft ff = cond fwft ff (not ff)
+
 abbrev pub full : Bool → Shown → Bool
-full fwft shown = cond fwft (shown .ff) (not (shown .ff))
+full fwft shown = tellsFull fwft (shown .ff)
 
 -- a word is ready: EF HIGH, or OR LOW
 abbrev pub tellsReady : Bool → Bool → Bool
@@ -53,14 +63,14 @@ ready fwft shown = tellsReady fwft (shown .ef)
 
 -- the word on D is accepted
 unfoldable pub accepts : Notes → Pins → Shown → Bool
-accepts b p before = wclkRises b p && p .ld && not (p .wen) && not (full (b .fwft) before)
+accepts b p before = asksWrite b p && not (full (b .fwft) before)
 
 unfoldable pub retransmits : Notes → Pins → Bool
 retransmits b p = rclkRises b p && not (p .rt)
 
 -- a read, which takes the word that is ready
 unfoldable pub reads : Notes → Pins → Shown → Bool
-reads b p before = rclkRises b p && p .ld && not (p .ren) && p .rt && ready (b .fwft) before
+reads b p before = asksRead b p && ready (b .fwft) before
 
 -- a word comes into the output register: in Standard by the read; in FWFT at a rise with RT HIGH that leaves one ready, where
 -- none was ready before or the read took it

@@ -19,10 +19,20 @@ use Rattle.sides.specs.Clocks as clocks
 use Rattle.sides.specs.Read as read
 use Rattle.sides.specs.Write as write
 use Rattle.history.specs.Onlooker.{accepts, delivers, noted, reads, ready, retransmits, wentOn}
-use Rattle.history.specs.Trace.{acceptsWord, led, next, outcome, powerUp, rclkRisesIn, shownBy, takes, undisturbed}
+use Rattle.history.specs.Trace.{Moment, acceptsWord, led, next, outcome, powerUp, rclkRisesIn, shownBy, takes, undisturbed}
 
 unfoldable pub zeros : List ℕ
 zeros = replicate 8192 0
+
+-- Where a sample leads part 255. With this unfolded all that it is worked by computes, but for whether the part is full,
+unfoldable pub worked : Moment → ℕ → Moment
+unfolding accepts advanced answerOf cleared clocks.readRises clocks.writeRises defaults delivers fit inReach linesOf loadParallel loadSerial loadedBy masterReset next noted offsetsAfter outcome packed partialReset passes read.delivers read.readAfter read.readCountAfter read.reads read.ready read.retransmits read.secondAfterRead read.seesWord readNext readingAfter reads recordRefusal refusalOf refusesEight refusesNine refusesSeven refusesSix refusesTen retransmits running sampled shownBy stateAfter stepped storeOf taken takes wentOn widths withBit write.accepts write.secondAfterWrite write.takesAfter write.writeAfter write.writeCountAfter
+worked = next Idt72V255LA
+
+-- and with this a trace from power-up.
+unfoldable pub tried : List ℕ → Moment
+unfolding worked led powerUp poweredUp write.full zeros
+tried = led Idt72V255LA (powerUp zeros)
 
 -- Master Reset into Standard, and into FWFT
 unfoldable pub standardReset : List ℕ
@@ -54,9 +64,9 @@ pub record Watched : Type 0 where
   pub shown : Bool
 
 unfoldable pub watched : List ℕ → List ℕ → Watched
-unfolding acceptsWord accepts advanced answerOf cleared clocks.readRises clocks.writeRises defaults delivers fit inReach led linesOf loadParallel loadSerial loadedBy masterReset next noted offsetsAfter outcome packed partialReset passes powerUp poweredUp rclkRisesIn read.delivers read.readAfter read.readCountAfter read.reads read.ready read.retransmits read.secondAfterRead read.seesWord readNext readingAfter reads recordRefusal refusalOf refusesEight refusesNine refusesSeven refusesSix refusesTen retransmits running sampled shownBy stateAfter stepped storeOf taken takes undisturbed wentOn widths withBit wordWritten write.accepts write.full write.secondAfterWrite write.takesAfter write.writeAfter write.writeCountAfter zeros
+unfolding tried acceptsWord rclkRisesIn undisturbed wordWritten
 watched earlier later =
-    let before = led Idt72V255LA (powerUp zeros) earlier in
+    let before = tried earlier in
     let word = next Idt72V255LA before wordWritten in
     let after = led Idt72V255LA word later in
     record {

@@ -1,2 +1,7 @@
-pub mod Outcome
-pub mod OutcomeLaws
+pub mod Fold
+pub mod NoteLaws
+pub mod BeginLaws
+pub mod FoldLaws
+pub mod ReachLaws
+pub mod LoopLaws
+pub mod Unique

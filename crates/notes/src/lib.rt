@@ -1,2 +1,3 @@
-// What is noted of a record's outcome.
-pub mod outcome;
+// What a run notes of each sample, whichever model it works.
+pub mod answers;
+pub mod number;

@@ -7,7 +7,7 @@ use lib.ListN.{getD, length, length-set, set}
 use lib.Seq.{getD-set-other, getD-set-same}
 use native.Mathlib.Nat.{add-zero, mod-eq-of-lt, zero-add}
 use native.Mathlib.Omega.{arith}
-use Rattle.pins.specs.Trace.{joined, recordsFrom, wholeRecords, wordAt}
+use Rattle.pins.specs.Trace.{joined, itemsFrom, recordsFrom, wholeRecords, wordAt}
 use Rattle.numerals.specs.Bytes.{byteOf, lowByte, putFour, putWord, wordsIn}
 
 pub word-again : (word : ℕ) → word < 2 ^ 32 → joined (byteOf 24 word) (byteOf 16 word) (byteOf 8 word) (lowByte word) ≡ word
@@ -74,7 +74,7 @@ put-same bytes place word within h =
     rw (first, second, third, fourth) (word-again word h)
 
 records-later : (bytes : List ℕ) (place word index many : ℕ) → place < index → recordsFrom (putWord bytes (place * 4) word) index many ≡ recordsFrom bytes index many
-unfolding recordsFrom
+unfolding itemsFrom
 records-later bytes place word index zero before = refl
 records-later bytes place word index (suc many) before =
     let n : place ≢ index = λ e. absurd (omega arith) in
@@ -82,7 +82,7 @@ records-later bytes place word index (suc many) before =
 
 records-put : (bytes : List ℕ) (word index many on : ℕ) → on < many → (index + on) * 4 + 3 < length bytes → word < 2 ^ 32
     → recordsFrom (putWord bytes ((index + on) * 4) word) index many ≡ set (recordsFrom bytes index many) on word
-unfolding recordsFrom
+unfolding itemsFrom
 records-put bytes word index zero on below within h = absurd (omega arith)
 records-put bytes word index (suc many) zero below within h =
     rw (add-zero) (rw (put-same bytes index word (omega arith) h) (ap (λ (l : List ℕ). word ∷ l) (records-later bytes index word (index + 1) many (omega arith))))
@@ -92,7 +92,7 @@ records-put bytes word index (suc many) (suc on) below within h =
     rw (put-other bytes (index + suc on) word index n) (ap (λ (l : List ℕ). wordAt bytes (index * 4) ∷ l) (rw later (records-put bytes word (index + 1) many on (omega arith) (omega arith) h)))
 
 records-get : (bytes : List ℕ) (index many on : ℕ) → on < many → getD (recordsFrom bytes index many) on 0 ≡ wordAt bytes ((index + on) * 4)
-unfolding recordsFrom
+unfolding itemsFrom
 records-get bytes index zero on below = absurd (omega arith)
 records-get bytes index (suc many) zero below = rw (add-zero) refl
 records-get bytes index (suc many) (suc on) below =

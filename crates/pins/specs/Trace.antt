@@ -18,9 +18,12 @@ wordAt trace at = joined (getD trace at 0) (getD trace (at + 1) 0) (getD trace (
 abbrev pub wholeRecords : List ℕ → ℕ
 wholeRecords trace = length trace / 4
 
+-- what stands at an index of so many bytes, by the size of an item: a whole one, the bytes left over, or nothing more
+abbrev pub standing : {A : Type 0} → ℕ → ℕ → ℕ → A → A → A → A
+standing size bytes index whole leftover end = cond (ltb index (bytes / size)) whole (cond (eqb (bytes % size) 0) end leftover)
+
 unfoldable pub recordAt : List ℕ → ℕ → Record
-recordAt trace index =
-    cond (ltb index (wholeRecords trace)) (Whole (wordAt trace (index * 4))) (cond (eqb (length trace % 4) 0) End Leftover)
+recordAt trace index = standing 4 (length trace) index (Whole (wordAt trace (index * 4))) Leftover End
 
 -- the number under which a run that finds this goes no further, 0 where nothing is wrong
 abbrev pub numberOf : Record → ℕ
@@ -28,15 +31,21 @@ numberOf (Whole word) = 0
 numberOf Leftover = 4
 numberOf End = 0
 
--- 4 past the whole records of a trace that has bytes left over
+-- 4 past the whole items of so many bytes, where some are left over
+abbrev pub numberAt : ℕ → ℕ → ℕ → ℕ
+numberAt size bytes index = cond (ltb index (bytes / size) || eqb (bytes % size) 0) 0 4
+
 abbrev pub recordNumber : List ℕ → ℕ → ℕ
-recordNumber trace index = cond (ltb index (wholeRecords trace) || eqb (length trace % 4) 0) 0 4
+recordNumber trace index = numberAt 4 (length trace) index
 
 pub record Reads (trace : List ℕ) (index : ℕ) (r : Record) : Type 0 where
   pub number : numberOf r ≡ recordNumber trace index
   pub result : r ≡ recordAt trace index
 
--- as many records from an index on
-unfoldable pub recordsFrom : List ℕ → ℕ → ℕ → List ℕ
-recordsFrom trace index zero = []
-recordsFrom trace index (suc many) = wordAt trace (index * 4) ∷ recordsFrom trace (index + 1) many
+-- so many items from an index on, by what stands at each
+unfoldable pub itemsFrom : {A : Type 0} → (ℕ → A) → ℕ → ℕ → List A
+itemsFrom item index zero = []
+itemsFrom item index (suc many) = item index ∷ itemsFrom item (index + 1) many
+
+abbrev pub recordsFrom : List ℕ → ℕ → ℕ → List ℕ
+recordsFrom trace index many = itemsFrom (λ at. wordAt trace (at * 4)) index many

@@ -23,7 +23,8 @@ pub fn record_at(trace: &[u8], index: usize) -> Record
     }
 }
 
-fn word_at(trace: &[u8], at: usize) -> u32
+// Four bytes from a place on.
+pub fn word_at(trace: &[u8], at: usize) -> u32
     requires { ⌜ at + 3 < length (now trace) ⌝ }
     ensures { λ r. ⌜ r ≡ wordAt (now (trace .entry)) at ⌝ }
 {

@@ -4,38 +4,17 @@ use Prim.Native.Nat.{ℕ, _*_, _/_, _≤_, _<_}
 use mathlib.Core.Bool.{Bool, true, false, and-false, not, _&&_, _||_}
 use mathlib.Core.List.{List}
 use mathlib.Core.Logic.{_≢_}
-use mathlib.Core.Path.{_≡_, refl, _∙_}
+use mathlib.Core.Path.{_≡_, refl, sym, _∙_}
 use lib.Dec.{leb}
 use lib.ListN.{length}
 use borrow.Author.Tests.{eq-eqb, le-leb, lt-leb, ne-eqb}
 use Rattle.chip.specs.State.{passes}
-use Rattle.counts.specs.declared.part.Lookup.the-variants.{Known, Unknown}
 use Rattle.counts.specs.declared.part.Part.{Part}
-use Rattle.counts.specs.Part.{depthOf, partOf}
+use Rattle.counts.specs.Part.{depthOf}
 use Rattle.fifo.specs.NumberLaws.{askedBy, known, same-depth, wordsIn}
-use Rattle.fifo.specs.Sample.{isDepth}
-use Rattle.runs.specs.Run.{Progress, ended, roomy, runOf, worked}
-
-module _ (lenient : Bool) (number : ℕ) (bytes : List ℕ) (g : Progress) where
-  pub run-unknown : partOf number ≡ Unknown → runOf lenient number bytes g ≡ ended 1 0 g
-  unfolding runOf
-  run-unknown u = simp u
-
-  module _ (part : Part) (k : partOf number ≡ Known part) where
-    abbrev pub fitting : Bool
-    fitting = isDepth part (length (g .memory)) && roomy lenient (length bytes / 4) (length (g .answers)) (length (g .marks))
-
-    pub run-room : fitting ≡ false → runOf lenient number bytes g ≡ ended 2 0 g
-    unfolding runOf
-    run-room f = simp (k, f)
-
-    pub run-state : fitting ≡ true → passes part (g .state) ≡ false → runOf lenient number bytes g ≡ ended 3 0 g
-    unfolding runOf
-    run-state f t = simp (k, f, t)
-
-    pub run-works : fitting ≡ true → passes part (g .state) ≡ true → runOf lenient number bytes g ≡ worked lenient part bytes g
-    unfolding runOf
-    run-works f t = simp (k, f, t)
+use Rattle.notes.specs.BeginLaws as begin
+use Rattle.notes.specs.Fold.{ended, roomy}
+use Rattle.runs.specs.Run.{Progress, fitting, runOf, worked}
 
 marks-fit : (lenient : Bool) (whole marks : ℕ) → (lenient ≡ true → whole ≤ marks) → not lenient || leb whole marks ≡ true
 marks-fit true whole marks h = le-leb whole marks (h refl)
@@ -43,23 +22,26 @@ marks-fit false whole marks h = refl
 
 module _ (lenient : Bool) (bytes : List ℕ) (g : Progress) where
   pub one-comes : (number : ℕ) → number ≢ 255 → number ≢ 265 → runOf lenient number bytes g ≡ ended 1 0 g
-  one-comes number n m = run-unknown lenient number bytes g (simp (ne-eqb number 255 n, ne-eqb number 265 m))
+  unfolding runOf
+  one-comes number = begin.one-comes number _ _ _ g
 
   module _ (part : Part) where
+    two-comes : fitting lenient bytes g part ≡ false → runOf lenient (askedBy part) bytes g ≡ ended 2 0 g
+    unfolding runOf
+    two-comes = begin.begun-room (askedBy part) _ _ _ g (sym (known part)) part refl
+
     pub two-by-memory : length (g .memory) ≢ wordsIn part → runOf lenient (askedBy part) bytes g ≡ ended 2 0 g
-    two-by-memory n = run-room lenient (askedBy part) bytes g part (known part) (simp (← same-depth part, ne-eqb (length (g .memory)) (wordsIn part) n))
+    two-by-memory n = two-comes (simp (← same-depth part, ne-eqb (length (g .memory)) (wordsIn part) n))
 
     pub two-by-answers : length (g .answers) < length bytes / 4 * 3 → runOf lenient (askedBy part) bytes g ≡ ended 2 0 g
-    two-by-answers short =
-        run-room lenient (askedBy part) bytes g part (known part) (simp (lt-leb (length bytes / 4 * 3) (length (g .answers)) short, and-false))
+    two-by-answers short = two-comes (simp (lt-leb (length bytes / 4 * 3) (length (g .answers)) short, and-false))
 
     pub two-by-marks : lenient ≡ true → length (g .marks) < length bytes / 4 → runOf lenient (askedBy part) bytes g ≡ ended 2 0 g
-    two-by-marks l short =
-        run-room lenient (askedBy part) bytes g part (known part) (simp (l, lt-leb (length bytes / 4) (length (g .marks)) short, and-false))
+    two-by-marks l short = two-comes (simp (l, lt-leb (length bytes / 4) (length (g .marks)) short, and-false))
 
     module _ (sized : length (g .memory) ≡ wordsIn part) (room : length bytes / 4 * 3 ≤ length (g .answers))
         (marks : lenient ≡ true → length bytes / 4 ≤ length (g .marks)) where
-      fits : isDepth part (length (g .memory)) && roomy lenient (length bytes / 4) (length (g .answers)) (length (g .marks)) ≡ true
+      fits : fitting lenient bytes g part ≡ true
       fits = simp (
         eq-eqb (length (g .memory)) (depthOf part) (sized ∙ same-depth part),
         le-leb (length bytes / 4 * 3) (length (g .answers)) room,
@@ -67,7 +49,9 @@ module _ (lenient : Bool) (bytes : List ℕ) (g : Progress) where
       )
 
       pub three-comes : passes part (g .state) ≡ false → runOf lenient (askedBy part) bytes g ≡ ended 3 0 g
-      three-comes = run-state lenient (askedBy part) bytes g part (known part) fits
+      unfolding runOf
+      three-comes = begin.begun-state (askedBy part) _ _ _ g (sym (known part)) part refl fits
 
       pub records-worked : passes part (g .state) ≡ true → runOf lenient (askedBy part) bytes g ≡ worked lenient part bytes g
-      records-worked = run-works lenient (askedBy part) bytes g part (known part) fits
+      unfolding runOf
+      records-worked = begin.begun-works (askedBy part) _ _ _ g (sym (known part)) part refl fits

@@ -15,14 +15,15 @@ use Rattle.counts.specs.Part.{depthOf}
 use Rattle.offsets.specs.Loading.{loadParallel, loadSerial, loadedBy, offsetsAfter, withBit}
 use Rattle.offsets.specs.Reading.{readNext, readingAfter}
 use Rattle.offsets.specs.Registers.{defaults, fit}
-use Rattle.pins.specs.Trace.{recordAt, recordsFrom, wordAt}
+use Rattle.pins.specs.Trace.{itemsFrom, recordAt, wordAt}
 use Rattle.sides.specs.Clocks.{readRises, writeRises}
 use Rattle.sides.specs.Read.{delivers, readAfter, readCountAfter, reads, ready, retransmits, secondAfterRead, seesWord}
 use Rattle.sides.specs.Write.{accepts, full, secondAfterWrite, takesAfter, writeAfter, writeCountAfter}
 use Rattle.views.specs.declared.retransmit.View.the-variants.{Seen}
 use Rattle.views.specs.declared.stages.ReadRise.the-variants as readRise
 use Rattle.views.specs.Flags.{hfLow, paeLow}
-use Rattle.runs.specs.Run.{Ended, folded, runOf, started, worked}
+use Rattle.notes.specs.Fold.{begun, folded, started}
+use Rattle.runs.specs.Run.{Ended, runOf, worked}
 use Rattle.pins.specs.Answer.{packed, putAnswer}
 use Rattle.fifo.specs.Sample.{recordRefusal, stepped, taken}
 
@@ -50,7 +51,7 @@ printed e = record { answers = threes (e .progress .answers); accepted = e .prog
 
 -- a strict run of part 255 from a state, with a memory of zeros and room for nine answers
 unfoldable pub ranHere : List ℕ → State → Ended
-unfolding accepts advanced answerOf cleared defaults delivers fit folded full inReach linesOf loadParallel loadSerial loadedBy masterReset offsetsAfter packed partialReset passes poweredUp putAnswer readAfter readCountAfter readNext readRises readingAfter reads ready recordAt recordRefusal recordsFrom refusalOf refusesEight refusesNine refusesSeven refusesSix refusesTen retransmits runOf running secondAfterRead secondAfterWrite seesWord stateAfter stepped storeOf taken takesAfter widths withBit wordAt worked writeAfter writeCountAfter writeRises
+unfolding accepts advanced answerOf begun cleared defaults delivers fit folded full inReach linesOf loadParallel loadSerial loadedBy masterReset offsetsAfter packed partialReset passes poweredUp putAnswer readAfter readCountAfter readNext readRises readingAfter reads ready recordAt recordRefusal itemsFrom refusalOf refusesEight refusesNine refusesSeven refusesSix refusesTen retransmits runOf running secondAfterRead secondAfterWrite seesWord stateAfter stepped storeOf taken takesAfter widths withBit wordAt worked writeAfter writeCountAfter writeRises
 ranHere bytes s = runOf false 255 bytes (started s (replicate 8192 0) (replicate 27 0) [])
 
 pub table :

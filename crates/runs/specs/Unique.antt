@@ -1,17 +1,17 @@
 -- What counts as an answer proved: two outcomes that meet a run's promise are the same in result and in every room lent.
 use Prim.Native.Nat.{ℕ}
 use mathlib.Core.List.{List}
-use mathlib.Core.Path.{_≡_, sym, _∙_}
+use mathlib.Core.Path.{_≡_}
 use Rattle.chip.specs.declared.state.State.{State}
+use Rattle.notes.specs.Unique as notes
 use Rattle.runs.specs.declared.run.Ran.{Ran}
 use Rattle.runs.specs.Run.{Runs, RunsLenient}
 
 pub run-unique : (number : ℕ) (bytes : List ℕ) (s : State) (memory answers : List ℕ) (a b : Ran) (m n k l : List ℕ)
     → Runs number bytes s memory answers a m k → Runs number bytes s memory answers b n l → (a ≡ b) × (m ≡ n) × (k ≡ l)
-run-unique number bytes s memory answers a b m n k l f g = (f .result ∙ sym (g .result), f .words ∙ sym (g .words), f .room ∙ sym (g .room))
+run-unique number bytes s memory answers a b m n k l = notes.strict-unique
 
 pub lenient-unique : (number : ℕ) (bytes : List ℕ) (s : State) (memory answers marks : List ℕ) (a b : Ran) (m n k l i j : List ℕ)
     → RunsLenient number bytes s memory answers marks a m k i → RunsLenient number bytes s memory answers marks b n l j
     → (a ≡ b) × (m ≡ n) × (k ≡ l) × (i ≡ j)
-lenient-unique number bytes s memory answers marks a b m n k l i j f g =
-    (f .result ∙ sym (g .result), f .words ∙ sym (g .words), f .room ∙ sym (g .room), f .marked ∙ sym (g .marked))
+lenient-unique number bytes s memory answers marks a b m n k l i j = notes.ends-unique

@@ -1,7 +1,9 @@
 // A run over a whole trace, strict or lenient.
-ghost use Prim.Native.Nat.{_*_, _≤_};
+ghost use Prim.Native.Nat.{_*_, _+_, _<_, _≤_};
 ghost use Rattle.chip.specs.State.{widths};
-ghost use Rattle.runs.specs.Run.{Began, Ends, Runs, RunsLenient, roomy, started, worked};
+ghost use Rattle.fifo.specs.Sample.{answersAfter};
+ghost use Rattle.notes.specs.Fold.{Ends, started};
+ghost use Rattle.runs.specs.Run.{Began, Runs, RunsLenient, ranOf, worked};
 ghost use Rattle.pins.specs.Trace as trace;
 ghost use Rattle.pins.specs.Trace.{wholeRecords};
 ghost use lib.ListN.{length};
@@ -10,6 +12,7 @@ ghost use mathlib.Core.Path.{_≡_};
 use chip::state::State;
 use counts::part::Lookup;
 use counts::part::Part;
+use fifo::sample::Outcome;
 use pins::trace::Record;
 
 // Where a run ended: the index of the record that it refused, or of the end of the trace, and the number, 0 for none.
@@ -55,8 +58,9 @@ fn begin(
     let Lookup::Known(known) = looked_up else {
         return end_at(0, 0, 1, state);
     };
+    let whole = trace.len() / 4;
     let sized = fifo::sample::is_depth(known, memory.len());
-    if sized & is_roomy(lenient, trace.len() / 4, answers.len(), marks.len()) {
+    if sized & notes::answers::is_roomy(lenient, whole * 3, whole, answers.len(), marks.len()) {
         if chip::state::passes_test(known, state) {
             go(lenient, known, trace, state, memory, answers, marks)
         } else {
@@ -78,12 +82,6 @@ fn end_at(index: usize, accepted: usize, refusal: u8, state: State) -> Ran
     }
 }
 
-fn is_roomy(lenient: bool, whole: usize, answers: usize, marks: usize) -> bool
-    ensures { λ r. ⌜ r ≡ roomy lenient whole answers marks ⌝ }
-{
-    (whole <= answers / 3) & (!lenient | (whole <= marks))
-}
-
 fn go(
     lenient: bool,
     part: Part,
@@ -94,7 +92,7 @@ fn go(
     marks: &mut [u8],
 ) -> Ran
     requires { ⌜ (widths part state ≡ true) × (wholeRecords (now trace) * 3 ≤ length (now answers)) ⌝ }
-    ensures { λ r. ⌜ Ends (worked lenient part (now (trace .entry)) (started state (now (memory .entry)) (now (answers .entry)) (now (marks .entry)))) r (now (memory .exit)) (now (answers .exit)) (now (marks .exit)) ⌝ }
+    ensures { λ r. ⌜ Ends ranOf (worked lenient part (now (trace .entry)) (started state (now (memory .entry)) (now (answers .entry)) (now (marks .entry)))) r (now (memory .exit)) (now (answers .exit)) (now (marks .exit)) ⌝ }
 {
     let mut s = state;
     let mut accepted: usize = 0;
@@ -108,13 +106,23 @@ fn go(
         let outcome = sampled.outcome;
         // A refused record leaves the state as it was: the old one is not needed beside the new one.
         s = sampled.state;
-        if notes::outcome::is_stop(lenient, outcome) {
-            return end_at(index, accepted, notes::outcome::number_of(outcome), s);
+        let number = fifo::outcome::number_of(outcome);
+        if notes::number::is_stop(lenient, number) {
+            return end_at(index, accepted, number, s);
         }
-        notes::outcome::note_answer(outcome, index, answers);
-        notes::outcome::note_mark(lenient, outcome, index, marks);
-        accepted = notes::outcome::count(outcome, accepted);
+        note_answer(outcome, index, answers);
+        notes::number::note_mark(lenient, number, index, marks);
+        accepted = notes::number::count(number, accepted);
         index += 1;
+    }
+}
+
+fn note_answer(outcome: Outcome, index: usize, answers: &mut [u8])
+    requires { ⌜ index * 3 + 2 < length (now answers) ⌝ }
+    ensures { λ _. ⌜ now (answers .exit) ≡ answersAfter outcome index (now (answers .entry)) ⌝ }
+{
+    if let Outcome::Taken(answer) = outcome {
+        notes::answers::put_answer(answers, index, answer);
     }
 }
 

@@ -3,9 +3,9 @@ use mathlib.Core.Bool.{and-eq-true-iff}
 use denote.Ref.{now}
 use borrow.Author.Needs.{needs}
 use Rattle.chip.specs.Widths.{tested-widths}
-use Rattle.runs.specs.NumberLaws.{run-room, run-state, run-unknown, run-works}
-use Rattle.runs.specs.Run.{started}
-use Rattle.runs.proofs.RunLaws.{ends-by, room-told, turned-away}
+use Rattle.notes.specs.Fold.{started}
+use Rattle.notes.specs.LoopLaws.{ends-by, turned-away}
+use Rattle.runs.proofs.RunLaws.{room-told, run-room, run-state, run-unknown, run-works}
 use Rattle.runs.proofs.run.begin.Statement.{statement}
 use Rattle.runs.proofs.run.begin.Tie as tie
 
@@ -15,7 +15,7 @@ returns c =
     let a = looked .before .before .before .before .before .args in
     turned-away
     (run-unknown (a .lenient) (a .part) (now (a .trace)) (started (a .state) (now (a .memory)) (now (a .answers)) (now (a .marks)))
-    (sym (looked .look-up .ensures) ∙ c .before .enum-told .given .1))
+    (looked .look-up .ensures) (c .before .enum-told .given .1))
     (c .end-at .ensures)
 
 go-requires : tie.Need-go-requires
@@ -25,7 +25,9 @@ go-requires c κs =
     let sized = roomy .before in
     let a = sized .before .before .before .before .before .before .before .before .before .args in (
       tested-widths _ (a .state) (sym (tested .passes-test .ensures) ∙ c .before .before .before .if2 .taken),
-      room-told (a .lenient) _ _ _ (sym (roomy .is-roomy .ensures) ∙ and-eq-true-iff (sized .is-depth .result) (roomy .is-roomy .result) .0 (tested .before .if1 .taken) .1),
+      room-told (a .lenient) (now (a .trace)) (started (a .state) (now (a .memory)) (now (a .answers)) (now (a .marks)))
+      (sized .before .before .looked-up .given .0 .0)
+      (sym (cc (sized .is-depth .ensures, roomy .is-roomy .ensures)) ∙ tested .before .if1 .taken),
     )
 
 returns-2 : tie.Need-returns-2
@@ -39,7 +41,7 @@ returns-2 c =
     let a = looked .before .before .before .before .before .args in
     ends-by
     (run-works (a .lenient) (a .part) (now (a .trace)) (started (a .state) (now (a .memory)) (now (a .answers)) (now (a .marks)))
-    _ (sym (looked .look-up .ensures) ∙ known .looked-up .given .1)
+    (looked .look-up .ensures) _ (known .looked-up .given .1)
     (sym (cc (sized .is-depth .ensures, roomy .is-roomy .ensures)) ∙ tested .before .if1 .taken)
     (sym (tested .passes-test .ensures) ∙ work .before .before .before .before .if2 .taken))
     (work .go .ensures)
@@ -54,7 +56,7 @@ returns-3 c =
     let a = looked .before .before .before .before .before .args in
     turned-away
     (run-state (a .lenient) (a .part) (now (a .trace)) (started (a .state) (now (a .memory)) (now (a .answers)) (now (a .marks)))
-    _ (sym (looked .look-up .ensures) ∙ known .looked-up .given .1)
+    (looked .look-up .ensures) _ (known .looked-up .given .1)
     (sym (cc (sized .is-depth .ensures, roomy .is-roomy .ensures)) ∙ tested .before .if1 .taken)
     (sym (tested .passes-test .ensures) ∙ c .before .if2 .left))
     (c .end-at2 .ensures)
@@ -68,7 +70,7 @@ returns-4 c =
     let a = looked .before .before .before .before .before .args in
     turned-away
     (run-room (a .lenient) (a .part) (now (a .trace)) (started (a .state) (now (a .memory)) (now (a .answers)) (now (a .marks)))
-    _ (sym (looked .look-up .ensures) ∙ known .looked-up .given .1)
+    (looked .look-up .ensures) _ (known .looked-up .given .1)
     (sym (cc (sized .is-depth .ensures, roomy .is-roomy .ensures)) ∙ c .before .if1 .left))
     (c .end-at3 .ensures)
 
@@ -82,6 +84,7 @@ begin-spec =
     (λ c κs. search needs)
     returns
     (λ c κs. search needs)
+    (λ c. search needs)
     (λ c κs. search needs)
     (λ c κs. search needs)
     go-requires

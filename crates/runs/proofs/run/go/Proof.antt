@@ -5,7 +5,7 @@ use borrow.Author.Needs.{needs}
 use native.Mathlib.Omega.{arith}
 use Rattle.pins.specs.Trace.{wholeRecords}
 use Rattle.pins.specs.TraceLaws.{whole-below}
-use Rattle.runs.specs.Run.{started}
+use Rattle.notes.specs.Fold.{started}
 use Rattle.runs.proofs.RunLaws.{Going, ended-now, going, no-whole, stopped-now, turned-now}
 use Rattle.runs.proofs.run.go.Statement.{statement}
 use Rattle.runs.proofs.run.go.Tie as tie
@@ -26,81 +26,64 @@ loop-holds c =
 
 returns : tie.Need-returns Inv-loop μ-loop
 returns c =
-    let ending = c .before in
-    let told = ending .before .before in
+    let told = c .before .before .before in
     rw (c .end-at .ensures)
-    (ended-now (told .before .loop .inv) (told .record-at .ensures .result) (no-whole (told .record-at .result) (ending .before .match .keys2)) (ending .ending .ensures))
+    (ended-now (told .before .loop .inv) (told .record-at .ensures .result) (no-whole (told .record-at .result) (c .before .before .match .keys2)) (c .before .ending .ensures))
 
 step-requires : tie.Need-step-requires Inv-loop μ-loop
-step-requires c κs = c .before .before .before .before .before .loop .inv .fits
+step-requires c κs = c .before .before .before .before .before .loop .inv .turns .fitting
 
 returns-2 : tie.Need-returns-2 Inv-loop μ-loop
 returns-2 c =
-    let number = c .before in
-    let stop = number .before .before in
-    let stepped = stop .before .before .before .before in
-    let whole = stepped .before .before .before in
-    let told = whole .before .before in
+    let stop = c .before .before in
+    let whole = c .before .before .before .before .before .before .before .before .before .before in
+    let told = c .before .before .before .before .before .before .before .before .before .before .before .before in
     rw (c .end-at2 .ensures)
-    (stopped-now (told .before .loop .inv) (told .record-at .ensures .result) (whole .«record» .given .1) (stepped .step .ensures .gives) (stop .is-stop .ensures)
-    (number .before .if1 .taken) (number .number-of .ensures))
+    (stopped-now (told .before .loop .inv) (told .record-at .ensures .result) (whole .«record» .given .1) (c .before .before .before .before .before .before .before .step .ensures .gives) (c .before .before .before .number-of .ensures)
+    (stop .is-stop .ensures) (c .before .if1 .taken))
 
 same-length-4 : tie.Need-same-length-4 Inv-loop μ-loop
-same-length-4 c =
-    let stepped = c .before .before .before .before .before .before .before in
-    let loop = stepped .before .before .before .before .before .before in
-    search (needs, stepped .step .ok, loop .loop .inv .words)
+same-length-4 c = search (needs, c .before .before .before .before .before .before .before .step .ok, c .before .before .before .before .before .before .before .before .before .before .before .before .before .loop .inv .turns .words)
 
 same-length-5 : tie.Need-same-length-5 Inv-loop μ-loop
-same-length-5 c = c .before .before .before .before .before .before .before .before .before .before .before .before .before .loop .inv .room
+same-length-5 c = c .before .before .before .before .before .before .before .before .before .before .before .before .before .loop .inv .turns .room
 
 same-length-6 : tie.Need-same-length-6 Inv-loop μ-loop
-same-length-6 c = c .before .before .before .before .before .before .before .before .before .before .before .before .before .loop .inv .marked
+same-length-6 c = c .before .before .before .before .before .before .before .before .before .before .before .before .before .loop .inv .turns .marked
 
 note-answer-requires : tie.Need-note-answer-requires Inv-loop μ-loop
 note-answer-requires c κs =
-    let whole = c .before .before .before .before .before .before .before .before .before in
-    let told = whole .before .before in
-    let loop = told .before in
-    omega (
-      arith,
-      whole-below _ _ (sym (told .record-at .ensures .result) ∙ whole .«record» .given .1),
-      loop .loop .inv .room,
-      loop .before .before .before .before .before .pre .1,
-    )
+    let told = c .before .before .before .before .before .before .before .before .before .before .before .before in
+    let loop = c .before .before .before .before .before .before .before .before .before .before .before .before .before in
+    let below = whole-below _ _ (sym (told .record-at .ensures .result) ∙ c .before .before .before .before .before .before .before .before .before .before .«record» .given .1) in
+    omega (arith, below, loop .loop .inv .turns .room, c .before .before .before .before .before .before .before .before .before .before .before .before .before .before .before .before .before .before .pre .1)
 
 count-requires : tie.Need-count-requires Inv-loop μ-loop
 count-requires c κs =
-    let whole = c .before .before .before .before .before .before .before .before .before .before .before .before .before .before .before .before in
-    let told = whole .before .before in
-    let loop = told .before in
-    omega (arith, whole-below _ _ (sym (told .record-at .ensures .result) ∙ whole .«record» .given .1), loop .loop .inv .counted, loop .before .before .before .before .before .good)
+    let told = c .before .before .before .before .before .before .before .before .before .before .before .before .before .before .before .before .before .before .before in
+    let loop = c .before .before .before .before .before .before .before .before .before .before .before .before .before .before .before .before .before .before .before .before in
+    let below = whole-below _ _ (sym (told .record-at .ensures .result) ∙ c .before .before .before .before .before .before .before .before .before .before .before .before .before .before .before .before .before .«record» .given .1) in
+    omega (arith, below, loop .loop .inv .turns .counted, c .before .before .before .before .before .before .before .before .before .before .before .before .before .before .before .before .before .before .before .before .before .before .before .before .before .good)
 
 add-index : tie.Need-add-index Inv-loop μ-loop
 add-index c =
-    let whole = c .before .before .before .before .before .before .before .before .before .before .before .before .before .before .before .before .before in
-    let told = whole .before .before in
-    let loop = told .before in
-    omega (arith, whole-below _ _ (sym (told .record-at .ensures .result) ∙ whole .«record» .given .1), loop .before .before .before .before .before .good)
+    let told = c .before .before .before .before .before .before .before .before .before .before .before .before .before .before .before .before .before .before .before .before in
+    let loop = c .before .before .before .before .before .before .before .before .before .before .before .before .before .before .before .before .before .before .before .before .before in
+    let below = whole-below _ _ (sym (told .record-at .ensures .result) ∙ c .before .before .before .before .before .before .before .before .before .before .before .before .before .before .before .before .before .before .«record» .given .1) in
+    omega (arith, below, c .before .before .before .before .before .before .before .before .before .before .before .before .before .before .before .before .before .before .before .before .before .before .before .before .before .before .good)
 
 loop-less : tie.Need-loop-less Inv-loop μ-loop
 loop-less c =
-    let whole = c .before .before .before .before .before .before .before .before .before .before .before .before .before .before .before .before .before in
-    let told = whole .before .before in
-    let loop = told .before in
-    omega (arith, whole-below _ _ (sym (told .record-at .ensures .result) ∙ whole .«record» .given .1))
+    let told = c .before .before .before .before .before .before .before .before .before .before .before .before .before .before .before .before .before .before .before .before in
+    let loop = c .before .before .before .before .before .before .before .before .before .before .before .before .before .before .before .before .before .before .before .before .before in
+    let below = whole-below _ _ (sym (told .record-at .ensures .result) ∙ c .before .before .before .before .before .before .before .before .before .before .before .before .before .before .before .before .before .before .«record» .given .1) in
+    omega (arith, below)
 
 loop-again : tie.Need-loop-again Inv-loop μ-loop
 loop-again c =
-    let mark = c .before .before .before in
-    let answer = mark .before .before .before .before in
-    let goes-on = answer .before .before in
-    let stop = goes-on .before in
-    let stepped = stop .before .before .before .before in
-    let whole = stepped .before .before .before in
-    let told = whole .before .before in
-    turned-now (told .before .loop .inv) (told .record-at .ensures .result) (whole .«record» .given .1) (stepped .step .ensures .gives) (stop .is-stop .ensures)
-    (goes-on .if1 .left) (answer .note-answer .ensures) (mark .note-mark .ensures) (c .count .ensures)
+    let told = c .before .before .before .before .before .before .before .before .before .before .before .before .before .before .before .before .before .before .before .before in
+    turned-now (told .before .loop .inv) (told .record-at .ensures .result) (c .before .before .before .before .before .before .before .before .before .before .before .before .before .before .before .before .before .before .«record» .given .1) (c .before .before .before .before .before .before .before .before .before .before .before .before .before .before .before .step .ensures .gives) (c .before .before .before .before .before .before .before .before .before .before .before .number-of .ensures)
+    (c .before .before .before .before .before .before .before .before .before .before .is-stop .ensures) (c .before .before .before .before .before .before .before .before .before .if1 .left) (c .before .before .before .before .before .before .before .note-answer .ensures) (c .before .before .before .note-mark .ensures) (c .count .ensures)
 
 pub go-spec : {M : Type 1} → statement M
 go-spec =

@@ -3,8 +3,8 @@ use lib.ListN.{length-set}
 use Rattle.pins.specs.Answer.{putAnswer}
 use mathlib.Core.Path.{refl}
 use borrow.Author.Needs.{needs}
-use Rattle.notes.proofs.outcome.put_answer.Statement.{statement}
-use Rattle.notes.proofs.outcome.put_answer.Tie as tie
+use Rattle.notes.proofs.answers.put_answer.Statement.{statement}
+use Rattle.notes.proofs.answers.put_answer.Tie as tie
 
 slice-write-answers-2 : tie.Need-slice-write-answers-2
 slice-write-answers-2 c = simp length-set (omega arith)

@@ -1,0 +1,63 @@
+-- Where a sample leads, by whether it is taken.
+use Prim.Native.Nat.{ℕ}
+use mathlib.Core.Bool.{Bool, true, false, cond, true≢false}
+use mathlib.Core.Path.{_≡_, refl, sym, subst}
+use lib.Dec.{eqb}
+use Rattle.chip.specs.Advance.{advanced, stored}
+use Rattle.counts.specs.declared.part.Part.{Part}
+use Rattle.fifo.specs.Sample.{After, fetchedFor, isTaken, recordRefusal, stepped, taken, turnedAway}
+use Rattle.pins.specs.declared.record.Pins.{Pins}
+use Rattle.pins.specs.Record.{pinsOf}
+use Rattle.refusals.specs.ReachLaws.{countsAfter}
+use Rattle.views.specs.TrueCounts.{TrueCounts}
+use Rattle.history.specs.LedLaws.{countsBy, countsNext, sample-steps}
+use Rattle.history.specs.Onlooker.{noted}
+use Rattle.history.specs.Told.{Told}
+use Rattle.history.specs.Trace.{Moment, at, movedTo, next, shownBy, takes}
+
+-- the moment that pins lead to which are not refused
+abbrev pub movedOn : Part → Moment → Pins → Moment
+movedOn part m p =
+    let a = advanced part p (fetchedFor part (m .state) (m .memory)) (m .state) in
+    at (a .state) (stored (a .store) (m .memory)) (noted (m .notes) p (shownBy part (m .state)) (shownBy part (a .state)))
+
+-- at any moment, what becomes of the notes
+module _ (part : Part) (m : Moment) (x : ℕ) where
+  pub notes-taken : takes part m x ≡ true
+      → next part m x .notes ≡ noted (m .notes) (pinsOf x) (shownBy part (m .state)) (shownBy part (next part m x .state))
+  unfolding next takes
+  notes-taken e = rw e refl
+
+  pub notes-refused : takes part m x ≡ false → next part m x .notes ≡ m .notes
+  unfolding next takes
+  notes-refused e = rw e refl
+
+-- at a moment reached from power-up, the whole of it
+module _ (part : Part) (m : Moment) (t : TrueCounts) (g : Told part m t) (x : ℕ) where
+  abbrev afterBy : Bool → After
+  afterBy free = cond free (taken part (pinsOf x) (m .state) (m .memory)) (turnedAway (recordRefusal part x (m .state)) (m .state) (m .memory))
+
+  abbrev MovesOn : After → Type 0
+  MovesOn a =
+      isTaken (a .sampled .outcome) ≡ true
+      → (movedTo part m x a ≡ movedOn part m (pinsOf x)) × (countsBy part m x a t ≡ countsAfter part (pinsOf x) (m .state) t)
+
+  moves-by : (free : Bool) → MovesOn (afterBy free)
+  unfolding taken
+  moves-by true e = (refl, refl)
+  moves-by false e = absurd (true≢false (sym e))
+
+  pub taken-next : takes part m x ≡ true
+      → (next part m x ≡ movedOn part m (pinsOf x)) × (countsNext part m x t ≡ countsAfter part (pinsOf x) (m .state) t)
+  unfolding takes next countsNext stepped
+  taken-next = subst MovesOn (sym (sample-steps part m t g x)) (moves-by (eqb (recordRefusal part x (m .state)) 0))
+
+  free-by : (free : Bool) → isTaken (afterBy free .sampled .outcome) ≡ free
+  unfolding taken
+  free-by true = refl
+  free-by false = refl
+
+  -- it is taken where its record is not refused: 1 to 3 do not come
+  pub takes-free : takes part m x ≡ eqb (recordRefusal part x (m .state)) 0
+  unfolding takes stepped
+  takes-free = rw (sample-steps part m t g x) (free-by (eqb (recordRefusal part x (m .state)) 0))
