@@ -10,7 +10,8 @@ use native.Mathlib.Omega.{arith}
 use Rattle.chip.specs.declared.state.State.{State}
 use Rattle.runs.specs.declared.run.Ran.{Ran}
 use Rattle.runs.specs.Run as runs
-use Rattle.runs.specs.Run.{ranOf, runOf, started}
+use Rattle.notes.specs.Fold.{started}
+use Rattle.runs.specs.Run.{ranOf, runOf}
 use Rattle.spelling.specs.Spelling.{spells, stateBytes, stateIn}
 use Rattle.handed_c.specs.Handed.{Hands, HandsBack, RunsLenient, RunsStrict, endedSize, ranHanded, sound}
 

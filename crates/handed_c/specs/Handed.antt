@@ -6,7 +6,8 @@ use mathlib.Core.Path.{_≡_}
 use lib.Dec.{eqb}
 use lib.ListN.{length}
 use Rattle.runs.specs.declared.run.Ran.{Ran}
-use Rattle.runs.specs.Run.{Ended, runOf, started}
+use Rattle.notes.specs.Fold.{started}
+use Rattle.runs.specs.Run.{Ended, runOf}
 use Rattle.spelling.specs.Spelling.{spelling, spells, stateBytes, stateIn}
 
 -- an index, and a number of records

@@ -78,10 +78,6 @@ module _ (part : Part) (m : Moment) (t : TrueCounts) (g : Told part m t) (x : �
     pub word-answered : let after = next part m x in (tellsReady (after .notes .fwft) (bit 22 answer) ≡ true) ↔ ShowsWord part after
     word-answered = rw (answers-taken answer given .ef) (λ e. e, λ e. e)
 
-pub put-length : (room : List ℕ) (index answer : ℕ) → length (putAnswer room index answer) ≡ length room
-unfolding putAnswer
-put-length room index answer = simp length-set
-
 -- the answer that is put into a room is found in it,
 pub answer-put : (room : List ℕ) (index answer : ℕ) → index * 3 + 2 < length room → answer < 2 ^ 24 → answerAt index (putAnswer room index answer) ≡ answer
 unfolding putAnswer answerAt

@@ -10,7 +10,8 @@ use Rattle.chip.specs.Reset.{poweredUp}
 use Rattle.counts.specs.declared.part.Part.{Part}
 use Rattle.counts.specs.Part.{numberOf}
 use Rattle.counts.specs.Round.{placeOf}
-use Rattle.runs.specs.Run.{Ended, runOf, started}
+use Rattle.notes.specs.Fold.{started}
+use Rattle.runs.specs.Run.{Ended, runOf}
 use Rattle.fifo.specs.Sample.{After, isTaken, sampled}
 use Rattle.offsets.specs.declared.reading.Shows.the-variants.{Register}
 use Rattle.pins.specs.declared.record.Pins.{Pins}

@@ -6,7 +6,7 @@ use mathlib.Core.List.{List, [], _∷_, _++_}
 use mathlib.Core.Logic.{_≢_}
 use mathlib.Core.Path.{_≡_, refl, sym, ap, _∙_}
 use lib.Dec.{eqb}
-use lib.ListN.{getD, length, length-set}
+use lib.ListN.{getD, length, length-set, take}
 use lib.Seq.{getD-set-other, getD-set-same}
 use borrow.Author.Tests.{eq-eqb}
 use native.Mathlib.Nat.{add-zero}
@@ -14,6 +14,20 @@ use native.Mathlib.Omega.{arith}
 use Rattle.pins.specs.Trace.{itemsFrom}
 use Rattle.notes.specs.Fold.{Ended, Progress, Stepping, acceptedAfter, ended, folded, noted, stops}
 use Rattle.notes.specs.FoldLaws.{fold-split}
+
+-- a run ends one way or the other
+pub cond-either : {A : Type 0} (P : A → Type 0) (test : Bool) (a b : A) → (test ≡ true → P a) → P b → P (cond test a b)
+cond-either P true a b f g = f refl
+cond-either P false a b f g = g
+
+-- state and memory after samples one by one
+pub record Left (S M : Type 0) : Type 0 where
+  pub state : S
+  pub memory : M
+
+abbrev pub leftBy : {X S M : Type 0} → Stepping X S M → S → M → List X → Left S M
+leftBy step s memory [] = record { state = s; memory = memory }
+leftBy step s memory (x ∷ xs) = leftBy step (step x s memory .state) (step x s memory .memory) xs
 
 module _ {X S M : Type 0} (step : Stepping X S M) where
   -- where the run of so many samples from an index on ends, and with which number
@@ -65,6 +79,45 @@ module _ {X S M : Type 0} (step : Stepping X S M) where
         by-number lenient (eqb (t .number) 0) (t .number) index many g
         (folded lenient step last (itemsFrom item (index + 1) many) (index + 1) (noted lenient index t g)) refl refl
         (reaches lenient many (index + 1) (noted lenient index t g))
+
+  -- an end that is so many samples further on, and there the state and memory that these leave one by one
+  pub record Follows (g : Progress S M) (xs : List X) (index : ℕ) (e : Ended S M) : Type 0 where
+    pub many : ℕ
+    pub further : e .index ≡ index + many
+    pub state : e .progress .state ≡ leftBy step (g .state) (g .memory) (take many xs) .state
+    pub memory : e .progress .memory ≡ leftBy step (g .state) (g .memory) (take many xs) .memory
+
+  stays : (g : Progress S M) (xs : List X) (number index : ℕ) → Follows g xs index (ended number index g)
+  stays g xs number index = record { many = 0; further = omega arith; state = refl; memory = refl }
+
+  follows-by : (stop : Bool) (g : Progress S M) (x : X) (xs : List X) (number index : ℕ) (h : Progress S M) (rest : Ended S M)
+      → h .state ≡ step x (g .state) (g .memory) .state → h .memory ≡ step x (g .state) (g .memory) .memory → Follows h xs (index + 1) rest
+      → Follows g (x ∷ xs) index (cond stop (ended number index g) rest)
+  follows-by true g x xs number index h rest s m f = stays g (x ∷ xs) number index
+  follows-by false g x xs number index h rest s m f = record {
+    many = suc (f .many);
+    further = omega (arith, f .further);
+    state = rw (s, m) at (f .state);
+    memory = rw (s, m) at (f .memory);
+  }
+
+  pub fold-follows : (lenient : Bool) (last : ℕ) (xs : List X) (index : ℕ) (g : Progress S M) → Follows g xs index (folded lenient step last xs index g)
+  unfolding folded
+  fold-follows lenient last [] index g = stays g [] last index
+  fold-follows lenient last (x ∷ xs) index g =
+      let t = step x (g .state) (g .memory) in
+      follows-by (stops lenient (t .number)) g x xs (t .number) index (noted lenient index t g) _ refl refl
+      (fold-follows lenient last xs (index + 1) (noted lenient index t g))
+
+  -- what holds of every sample's number and of the end's holds of the number that a run ends with
+  pub fold-number : (P : ℕ → Type 0) → ((x : X) (s : S) (memory : M) → P (step x s memory .number)) → (lenient : Bool) (last : ℕ) → P last
+      → (xs : List X) (index : ℕ) (g : Progress S M) → P (folded lenient step last xs index g .refusal)
+  unfolding folded
+  fold-number P each lenient last h [] index g = h
+  fold-number P each lenient last h (x ∷ xs) index g =
+      let t = step x (g .state) (g .memory) in
+      cond-either (λ (e : Ended S M). P (e .refusal)) (stops lenient (t .number)) (ended (t .number) index g) _
+      (λ stopped. each x (g .state) (g .memory)) (fold-number P each lenient last h xs (index + 1) (noted lenient index t g))
 
   -- marks of samples before an index stay, and so does their room
   marks-kept : (last : ℕ) (xs : List X) (index : ℕ) (g : Progress S M)

@@ -1,6 +1,9 @@
 pub mod Two
 pub mod State
+pub mod StateLaws
 pub mod Composite
 pub mod Refuse
 pub mod Sample
+pub mod SampleLaws
 pub mod Still
+pub mod StillLaws

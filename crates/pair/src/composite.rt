@@ -1,7 +1,6 @@
 // The composite flags of two parts side by side.
 ghost use Rattle.chip.specs.Reset.{selectedMode};
 ghost use Rattle.pair.specs.Composite.{Composes, ModeAfter, level};
-ghost use Rattle.pins.specs.Record.{bit};
 ghost use mathlib.Core.Path.{_≡_};
 use sides::read::Mode;
 
@@ -15,8 +14,8 @@ pub fn compose(mode: Mode, left: u32, right: u32) -> Composite
     ensures { λ r. ⌜ Composes mode left right r ⌝ }
 {
     Composite {
-        ff: level_of(mode, is_ff_high(left), is_ff_high(right)),
-        ef: level_of(mode, is_ef_high(left), is_ef_high(right)),
+        ff: level_of(mode, (left >> 23) % 2 == 1, (right >> 23) % 2 == 1),
+        ef: level_of(mode, (left >> 22) % 2 == 1, (right >> 22) % 2 == 1),
     }
 }
 
@@ -27,18 +26,6 @@ fn level_of(mode: Mode, left: bool, right: bool) -> bool
         Mode::Standard => left & right,
         Mode::Fwft { untaken: _ } => left | right,
     }
-}
-
-fn is_ff_high(answer: u32) -> bool
-    ensures { λ r. ⌜ r ≡ bit 23 answer ⌝ }
-{
-    (answer >> 23) % 2 == 1
-}
-
-fn is_ef_high(answer: u32) -> bool
-    ensures { λ r. ⌜ r ≡ bit 22 answer ⌝ }
-{
-    (answer >> 22) % 2 == 1
 }
 
 // The mode that a sample leaves, by either of its records: for a reader of answers, who has no state.

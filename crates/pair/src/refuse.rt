@@ -1,5 +1,5 @@
 // What is turned away, from 4 on, of two records for two parts side by side.
-ghost use Rattle.pair.specs.Refuse.{RefusesPair, firstOf, numbered, samePins};
+ghost use Rattle.pair.specs.Refuse.{RefusesPair, numbered, samePins};
 ghost use mathlib.Core.Path.{_≡_};
 use super::state::Halves;
 use counts::part::Part;
@@ -19,16 +19,10 @@ fn choose(same: bool, left: u8, right: u8) -> u8
     if (left == 4) | (right == 4) {
         4
     } else if same {
-        first(left, right)
+        if left == 0 { right } else { left }
     } else {
         11
     }
-}
-
-fn first(left: u8, right: u8) -> u8
-    ensures { λ r. ⌜ r ≡ firstOf left right ⌝ }
-{
-    if left == 0 { right } else { left }
 }
 
 // D and the two skew marks stand below bit 21, every other pin from there on.

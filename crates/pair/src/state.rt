@@ -27,13 +27,16 @@ pub fn passes_test(part: Part, state: Halves) -> bool
 {
     let left = state.left;
     let right = state.right;
-    let passed = chip::state::passes_test(part, left) & chip::state::passes_test(part, right);
-    passed & is_alike(is_fwft(left.read.mode), is_fwft(right.read.mode))
+    chip::state::passes_test(part, left)
+        & chip::state::passes_test(part, right)
+        & is_alike(is_fwft(left), is_fwft(right))
 }
 
-fn is_fwft(mode: Mode) -> bool
-    ensures { λ r. ⌜ r ≡ isFwft mode ⌝ }
+fn is_fwft(state: State) -> bool
+    ensures { λ r. ⌜ r ≡ isFwft (state .read .mode) ⌝ }
 {
+    let read = state.read;
+    let mode = read.mode;
     match mode {
         Mode::Standard => false,
         Mode::Fwft { untaken: _ } => true,

@@ -4,7 +4,8 @@ use mathlib.Core.Bool.{false}
 use mathlib.Core.List.{List, []}
 use mathlib.Core.Path.{_≡_}
 use Rattle.chip.specs.Reset.{poweredUp}
-use Rattle.runs.specs.Run.{Ended, runOf, started}
+use Rattle.notes.specs.Fold.{started}
+use Rattle.runs.specs.Run.{Ended, runOf}
 
 abbrev pub fromPowerUp : ℕ → List ℕ → List ℕ → List ℕ → Ended
 fromPowerUp number bytes memory answers = runOf false number bytes (started poweredUp memory answers [])

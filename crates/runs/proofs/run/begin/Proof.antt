@@ -26,8 +26,8 @@ go-requires c κs =
     let a = sized .before .before .before .before .before .before .before .before .before .args in (
       tested-widths _ (a .state) (sym (tested .passes-test .ensures) ∙ c .before .before .before .if2 .taken),
       room-told (a .lenient) (now (a .trace)) (started (a .state) (now (a .memory)) (now (a .answers)) (now (a .marks)))
-      (sized .before .before .looked-up .given .0 .0)
-      (sym (cc (sized .is-depth .ensures, roomy .is-roomy .ensures)) ∙ tested .before .if1 .taken),
+          (sized .before .before .looked-up .given .0 .0)
+          (sym (cc (sized .is-depth .ensures, roomy .is-roomy .ensures)) ∙ tested .before .if1 .taken),
     )
 
 returns-2 : tie.Need-returns-2

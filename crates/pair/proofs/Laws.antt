@@ -1,0 +1,75 @@
+-- One law for each way out of a step and of a sample of two parts.
+use Prim.Native.Nat.{ℕ}
+use mathlib.Core.Bool.{true, false, _&&_}
+use mathlib.Core.List.{List}
+use mathlib.Core.Path.{_≡_, refl, sym, ap, _∙_}
+use lib.ListN.{length}
+use Rattle.counts.specs.declared.part.Lookup.{Lookup}
+use Rattle.counts.specs.declared.part.Lookup.the-variants.{Known, Unknown}
+use Rattle.counts.specs.declared.part.Part.{Part}
+use Rattle.counts.specs.Part.{partOf}
+use Rattle.fifo.specs.declared.sample.Sampled as fifo
+use Rattle.fifo.specs.Sample as single
+use Rattle.pins.specs.declared.record.Pins.{Pins}
+use Rattle.pins.specs.Record.{pinsOf}
+use Rattle.pair.specs.declared.sample.Sampled.{Sampled}
+use Rattle.pair.specs.declared.state.Halves.{Halves}
+use Rattle.pair.specs.Refuse.{pairRefusal}
+use Rattle.pair.specs.Sample.{After, Gives, Samples, Steps, both, joined, numberOf, pairSampled, pairStepped, takenBoth, turnedAway}
+use Rattle.pair.specs.SampleLaws.{Numbered, sample-is-step, sample-numbered, step-numbered, step-takes}
+use Rattle.pair.specs.State.{passesBoth}
+use Rattle.pair.specs.Two.{Two, two}
+
+module _ {left right : fifo.Sampled} {m n : List ℕ} {r : Sampled} (j : r ≡ joined left right) where
+  gives-both : {a b : single.After} → single.Gives a left m → single.Gives b right n → Gives (both a b) r (two m n)
+  gives-both f g = record { result = cc; words = cc }
+
+  pub gives-taken : (part : Part) (x : Two ℕ) (h : Halves) (memory : Two (List ℕ)) {p q : Pins} → p ≡ pinsOf (x .left) → q ≡ pinsOf (x .right)
+      → single.Gives (single.taken part p (h .left) (memory .left)) left m → single.Gives (single.taken part q (h .right) (memory .right)) right n
+      → Gives (takenBoth part x h memory) r (two m n)
+  unfolding takenBoth
+  gives-taken part x h memory d e f g = rw (← d, ← e) (gives-both f g)
+
+gives-by : {a b : After} {r : Sampled} {memory : Two (List ℕ)} → a ≡ b → Gives b r memory → Gives a r memory
+gives-by e g = record { result = g .result ∙ sym (cc e); words = g .words ∙ sym (cc e) }
+
+numbered-by : {number : ℕ} {a : After} {h : Halves} {memory after : Two (List ℕ)} {r : Sampled} → Numbered number a h memory → Gives a r after
+    → numberOf (r .outcome) ≡ number
+numbered-by n g = ap (λ (r : Sampled). numberOf (r .outcome)) (g .result) ∙ n .told
+
+module _ {x : Two ℕ} {h : Halves} {memory after : Two (List ℕ)} {r : Sampled} {b : After} where
+  pub steps-by : {part : Part} → pairStepped part x h memory ≡ b → Gives b r after → Steps part x h memory r after
+  steps-by e g = let f = gives-by e g in record { refusal = numbered-by (step-numbered _ x h memory) f; gives = f }
+
+  pub samples-by : {number : ℕ} → pairSampled number x h memory ≡ b → Gives b r after → Samples number x h memory r after
+  samples-by e g = let f = gives-by e g in record { refusal = numbered-by (sample-numbered h memory x _) f; gives = f }
+
+pub gives-refusal : {number : ℕ} {h : Halves} {r : Sampled} {memory : Two (List ℕ)} → r ≡ turnedAway number h memory .sampled
+    → Gives (turnedAway number h memory) r memory
+gives-refusal e = record { result = e; words = refl }
+
+module _ (part : Part) (x : Two ℕ) (h : Halves) (memory : Two (List ℕ)) {number : ℕ} (f : number ≡ pairRefusal part x h) where
+  pub stepped-takes : number ≡ 0 → pairStepped part x h memory ≡ takenBoth part x h memory
+  stepped-takes z = step-takes part x h memory (sym f ∙ z)
+
+  pub stepped-refuses : (number ≡ 0 → ⊥) → pairStepped part x h memory ≡ turnedAway number h memory
+  stepped-refuses n = rw f (step-numbered part x h memory .still (λ e. n (f ∙ e)))
+
+module _ (number : ℕ) (x : Two ℕ) (h : Halves) (memory : Two (List ℕ)) {looked : Lookup} (e : looked ≡ partOf number) where
+  pub sample-unknown : looked ≡ Unknown → pairSampled number x h memory ≡ turnedAway 1 h memory
+  unfolding pairSampled
+  sample-unknown u = simp (← e, u)
+
+  module _ (part : Part) (k : looked ≡ Known part) where
+    pub sample-length : single.isDepth part (length (memory .left)) && single.isDepth part (length (memory .right)) ≡ false
+        → pairSampled number x h memory ≡ turnedAway 2 h memory
+    unfolding pairSampled
+    sample-length d = simp (← e, k, d)
+
+    module _ (d : single.isDepth part (length (memory .left)) && single.isDepth part (length (memory .right)) ≡ true) where
+      pub sample-state : passesBoth part h ≡ false → pairSampled number x h memory ≡ turnedAway 3 h memory
+      unfolding pairSampled
+      sample-state t = simp (← e, k, d, t)
+
+      pub sample-steps : passesBoth part h ≡ true → pairSampled number x h memory ≡ pairStepped part x h memory
+      sample-steps = sample-is-step number x h memory part (sym e ∙ k) d

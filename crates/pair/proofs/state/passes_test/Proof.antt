@@ -1,0 +1,16 @@
+use Rattle.pair.specs.State.{passesBoth}
+use borrow.Author.Needs.{needs}
+use Rattle.pair.proofs.state.passes_test.Statement.{statement}
+use Rattle.pair.proofs.state.passes_test.Tie as tie
+
+returns : tie.Need-returns
+unfolding passesBoth
+returns c =
+    let fwft = c .before .before in
+    let right = fwft .before in
+    simp (c .is-alike .ensures, c .before .is-fwft2 .ensures, fwft .is-fwft .ensures, right .passes-test2 .ensures, right .before .passes-test .ensures)
+
+pub passes-test-spec : {M : Type 1} → statement M
+passes-test-spec =
+    tie.close
+    (tie.spec (λ c κs. search needs) (λ c κs. search needs) (λ c κs. search needs) (λ c κs. search needs) (λ c κs. search needs) returns)
