@@ -25,6 +25,7 @@ use Rattle.views.specs.declared.stages.WriteRise.{WriteRise}
 use Rattle.views.specs.declared.stages.WriteRise.the-variants as writeRise
 use Rattle.views.specs.Flags.{pafLow}
 use Rattle.views.specs.TrueCounts.{TrueCounts, noCounts}
+use Rattle.pair.specs.Two.{two}
 use Rattle.history.specs.Asked.{readsWord, takenNext}
 use Rattle.history.specs.LedLaws.{countsLed, countsNext, told-after, told-next}
 use Rattle.history.specs.Onlooker.{full, reads}
@@ -48,11 +49,11 @@ wclkFallen = 0xCF980000
 -- so many writes to both parts, then other samples
 unfoldable pub filling : ℕ → List Records → List Records
 filling zero later = later
-filling (suc n) later = (zeroWritten, zeroWritten) ∷ (wclkFallen, wclkFallen) ∷ filling n later
+filling (suc n) later = two zeroWritten zeroWritten ∷ two wclkFallen wclkFallen ∷ filling n later
 
 -- a reset, as many writes as memory is deep, then other samples
 abbrev pub filledThen : Bool → List Records → List Records
-filledThen fwft later = (resetInto fwft, resetInto fwft) ∷ filling 8192 later
+filledThen fwft later = two (resetInto fwft) (resetInto fwft) ∷ filling 8192 later
 
 -- the read side remembers the last write
 abbrev latestAt : ℕ → WriteRise

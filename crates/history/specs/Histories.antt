@@ -140,7 +140,7 @@ not-at-third =
 -- memory and the room for answers that `run` and `run_lenient` promise to hand back. The run leads where the records that it
 -- worked lead one by one, and so the same is true of it.
 module _ (part : Part) (memory : List ℕ) (whole : length memory ≡ depthOf part) where
-  in-time-through : (samples earlier : List ℕ) (x : ℕ) (later : List ℕ) → samples ≡ earlier ++ (x ∷ later)
+  pub in-time-through : (samples earlier : List ℕ) (x : ℕ) (later : List ℕ) → samples ≡ earlier ++ (x ∷ later)
       → Waiting 3 4 part (led part (powerUp memory) earlier) x later
       → ShowsWord part (led part (powerUp memory) samples)
   unfolding led

@@ -11,7 +11,7 @@ use native.Mathlib.Nat.{sub-zero}
 use native.Mathlib.Omega.{arith}
 use Rattle.pins.specs.Trace.{itemsFrom}
 use Rattle.pins.specs.TraceLaws.{items-next}
-use Rattle.notes.specs.Fold.{Ended, Ends, Progress, Stepping, Turn, ended, folded, noted, stops}
+use Rattle.notes.specs.Fold.{Ended, Ends, Progress, Stepping, Turn, acceptedAfter, ended, folded, marksAfter, stops}
 use Rattle.notes.specs.NoteLaws.{accepted-most, marks-length}
 
 -- what a run may rely on: a refused sample moves nothing, a state that fits goes on to fit, and memory and rooms keep their size
@@ -61,33 +61,48 @@ module _ {X S M L : Type 0} (lenient : Bool) (step : Stepping X S M) (last : ℕ
   going e z = record { below = omega arith; counted = omega arith; fitting = e; words = refl; room = refl; marked = refl; same = rw sub-zero refl }
 
   module _ {g : Progress S M} {index : ℕ} (inv : Going g index) where
-    pub ended-now : whole ≤ index → all ≡ ended last index g
+    -- past the last sample
+    pub ended-now : {R : Type 0} (ran : Ended S M → R) {number : ℕ} → whole ≤ index → number ≡ last
+        → Ends ran all (ran (ended number index g)) (g .memory) (g .answers) (g .marks)
     unfolding folded itemsFrom
-    ended-now past =
+    ended-now ran past n =
         let none : whole - index ≡ 0 = omega (arith, inv .below) in
-        sym (rw none at (inv .same))
+        rw n (ends (sym (rw none at (inv .same))))
 
-    module _ (steady : Steady step fits size) (below : index < whole) {t : Turn S M} (e : step (item index) (g .state) (g .memory) ≡ t) where
-      pub stopped-now : stops lenient (t .number) ≡ true
-          → all ≡ ended (t .number) index (record { state = t .state; accepted = g .accepted; memory = t .memory; answers = g .answers; marks = g .marks })
+    -- at a sample: what its step gave, its number, and whether the run stops there
+    module _ (steady : Steady step fits size) (below : index < whole) {t : Turn S M} (e : step (item index) (g .state) (g .memory) ≡ t)
+        {number : ℕ} (n : number ≡ t .number) {stop : Bool} (s : stop ≡ stops lenient number) where
+      told : {is : Bool} → stop ≡ is → stops lenient (t .number) ≡ is
+      told h = rw (← n) (sym s ∙ h)
+
+      pub stopped-now : {R : Type 0} (ran : Ended S M → R) → stop ≡ true
+          → Ends ran all
+          (ran (ended number index (record { state = t .state; accepted = g .accepted; memory = t .memory; answers = g .answers; marks = g .marks })))
+          (t .memory) (g .answers) (g .marks)
       unfolding folded
-      stopped-now s =
-          let number = ap (λ (u : Turn S M). u .number) e in
-          let refused : step (item index) (g .state) (g .memory) .number ≢ 0 = λ none. stopped-number lenient (t .number) s (sym number ∙ none) in
+      stopped-now ran stopped =
+          let here = told stopped in
+          let refused : step (item index) (g .state) (g .memory) .number ≢ 0 =
+          λ none. stopped-number lenient (t .number) here (ap (λ (u : Turn S M). u .number) (sym e) ∙ none) in
           let still = steady .still (item index) (g .state) (g .memory) refused in
           let state : t .state ≡ g .state = ap (λ (u : Turn S M). u .state) (sym e) ∙ still .0 in
           let memory : t .memory ≡ g .memory = ap (λ (u : Turn S M). u .memory) (sym e) ∙ still .1 in
-          sym (rw (items-next item index whole below, e, s) at (inv .same))
-          ∙ (λ i. ended (t .number) index (record { state = sym state i; accepted = g .accepted; memory = sym memory i; answers = g .answers; marks = g .marks }))
+          rw n
+          (ends (sym (rw (items-next item index whole below, e, here) at (inv .same))
+          ∙ (λ i. ended (t .number) index (record { state = sym state i; accepted = g .accepted; memory = sym memory i; answers = g .answers; marks = g .marks }))))
 
-      pub turned-now : stops lenient (t .number) ≡ false → Going (noted lenient index t g) (index + 1)
+      pub turned-now : {accepted : ℕ} {answers marks : List ℕ} → stop ≡ false → answers ≡ t .answers index (g .answers)
+          → marks ≡ marksAfter lenient number index (g .marks) → accepted ≡ acceptedAfter number (g .accepted)
+          → Going (record { state = t .state; accepted = accepted; memory = t .memory; answers = answers; marks = marks }) (index + 1)
       unfolding folded
-      turned-now s = record {
-        below = omega arith;
-        counted = accepted-most (t .number) (g .accepted) index (inv .counted);
-        fitting = ap (λ (u : Turn S M). fits (u .state)) (sym e) ∙ steady .keeps (item index) (g .state) (g .memory) (inv .fitting);
-        words = ap (λ (u : Turn S M). size (u .memory)) (sym e) ∙ steady .sizes (item index) (g .state) (g .memory) ∙ inv .words;
-        room = ap (λ (u : Turn S M). length (u .answers index (g .answers))) (sym e) ∙ steady .rooms (item index) (g .state) (g .memory) index (g .answers) ∙ inv .room;
-        marked = marks-length lenient (t .number) index (g .marks) ∙ inv .marked;
-        same = rw (items-next item index whole below, e, s) at (inv .same);
-      }
+      turned-now goes l k m =
+          rw (l, k, m, n)
+          (record {
+            below = omega arith;
+            counted = accepted-most (t .number) (g .accepted) index (inv .counted);
+            fitting = ap (λ (u : Turn S M). fits (u .state)) (sym e) ∙ steady .keeps (item index) (g .state) (g .memory) (inv .fitting);
+            words = ap (λ (u : Turn S M). size (u .memory)) (sym e) ∙ steady .sizes (item index) (g .state) (g .memory) ∙ inv .words;
+            room = ap (λ (u : Turn S M). length (u .answers index (g .answers))) (sym e) ∙ steady .rooms (item index) (g .state) (g .memory) index (g .answers) ∙ inv .room;
+            marked = marks-length lenient (t .number) index (g .marks) ∙ inv .marked;
+            same = rw (items-next item index whole below, e, told goes) at (inv .same);
+          })

@@ -1,7 +1,8 @@
 -- Two parts side by side: the composite flags, from the mode and the two answers.
-use Prim.Native.Nat.{ℕ}
+use Prim.Native.Nat.{ℕ, _%_}
 use mathlib.Core.Bool.{Bool, cond, _&&_, _||_}
 use mathlib.Core.Path.{_≡_}
+use lib.Dec.{eqb}
 use Rattle.chip.specs.Reset.{selectedMode}
 use Rattle.pins.specs.Record.{bit, pinsOf}
 use Rattle.sides.specs.declared.read.Mode.{Mode}
@@ -12,6 +13,9 @@ use Rattle.pair.specs.declared.composite.Composite.{Composite}
 abbrev pub level : Mode → Bool → Bool → Bool
 level Standard left right = left && right
 level (Fwft untaken) left right = left || right
+
+abbrev pub isOdd : ℕ → Bool
+isOdd x = eqb (x % 2) 1
 
 -- FF/IR is bit 23 of an answer, EF/OR bit 22
 unfoldable pub compositeOf : Mode → ℕ → ℕ → Composite

@@ -2,8 +2,12 @@ pub mod Two
 pub mod State
 pub mod StateLaws
 pub mod Composite
+pub mod CompositeLaws
 pub mod Refuse
+pub mod RefuseLaws
 pub mod Sample
 pub mod SampleLaws
+pub mod NumberLaws
 pub mod Still
 pub mod StillLaws
+pub mod Unique

@@ -1,5 +1,5 @@
 -- Two parts side by side: the state at power-up, and the test of 3.
-use mathlib.Core.Bool.{Bool, not, cond, _&&_}
+use mathlib.Core.Bool.{Bool, not, _&&_, _||_}
 use mathlib.Core.Path.{_≡_}
 use Rattle.chip.specs.Reset.{poweredUp}
 use Rattle.chip.specs.ResetLaws.{isFwft}
@@ -7,11 +7,14 @@ use Rattle.chip.specs.State.{passes}
 use Rattle.counts.specs.declared.part.Part.{Part}
 use Rattle.pair.specs.declared.state.Halves.{Halves}
 
+abbrev pub poweredUpBoth : Halves
+poweredUpBoth = record { left = poweredUp; right = poweredUp }
+
 abbrev pub PoweredUp : Halves → Type 0
-PoweredUp r = r ≡ record { left = poweredUp; right = poweredUp }
+PoweredUp r = r ≡ poweredUpBoth
 
 abbrev pub alike : Bool → Bool → Bool
-alike left right = cond left right (not right)
+alike left right = left && right || not left && not right
 
 -- not refused 3: each half passes its own test, and both are in one timing mode, before a Master Reset too
 unfoldable pub passesBoth : Part → Halves → Bool

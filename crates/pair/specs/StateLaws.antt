@@ -1,6 +1,6 @@
 -- Two parts side by side: the test of 3 taken apart.
-use mathlib.Core.Bool.{Bool, true, false, not, _&&_, true≢false}
-use mathlib.Core.Path.{_≡_, refl, sym, ap}
+use mathlib.Core.Bool.{Bool, true, false, _&&_, true≢false}
+use mathlib.Core.Path.{_≡_, refl, sym}
 use Rattle.chip.specs.Reset.{poweredUp}
 use Rattle.chip.specs.ResetLaws.{isFwft, power-up-passes}
 use Rattle.chip.specs.State.{passes, widths}
@@ -8,16 +8,17 @@ use Rattle.chip.specs.Widths.{tested-widths}
 use Rattle.counts.specs.declared.part.Part.{Part}
 use Rattle.counts.specs.Both.{both}
 use Rattle.pair.specs.declared.state.Halves.{Halves}
-use Rattle.pair.specs.State.{alike, passesBoth}
+use Rattle.pair.specs.State.{alike, passesBoth, poweredUpBoth}
 
 pub alike-same : (left right : Bool) → alike left right ≡ true → left ≡ right
-alike-same true right e = sym e
+alike-same true true e = refl
+alike-same true false e = absurd (true≢false (sym e))
 alike-same false true e = absurd (true≢false (sym e))
 alike-same false false e = refl
 
-pub same-alike : (left right : Bool) → left ≡ right → alike left right ≡ true
-same-alike true right e = sym e
-same-alike false right e = ap not (sym e)
+alike-itself : (fwft : Bool) → alike fwft fwft ≡ true
+alike-itself true = refl
+alike-itself false = refl
 
 pub record Passed (part : Part) (h : Halves) : Type 0 where
   pub left : passes part (h .left) ≡ true
@@ -36,6 +37,6 @@ tested-both-widths part h e =
     let passed = tested-both part h e in
     (tested-widths part (h .left) (passed .left), tested-widths part (h .right) (passed .right))
 
-pub power-up-passes-both : (part : Part) → passesBoth part (record { left = poweredUp; right = poweredUp }) ≡ true
+pub power-up-passes-both : (part : Part) → passesBoth part poweredUpBoth ≡ true
 unfolding passesBoth
-power-up-passes-both part = simp (power-up-passes part, same-alike (isFwft (poweredUp .read .mode)) _ refl)
+power-up-passes-both part = simp (power-up-passes part, alike-itself (isFwft (poweredUp .read .mode)))

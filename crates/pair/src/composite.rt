@@ -1,6 +1,5 @@
 // The composite flags of two parts side by side.
-ghost use Rattle.chip.specs.Reset.{selectedMode};
-ghost use Rattle.pair.specs.Composite.{Composes, ModeAfter, level};
+ghost use Rattle.pair.specs.Composite.{Composes, ModeAfter, isOdd, level};
 ghost use mathlib.Core.Path.{_≡_};
 use sides::read::Mode;
 
@@ -14,17 +13,20 @@ pub fn compose(mode: Mode, left: u32, right: u32) -> Composite
     ensures { λ r. ⌜ Composes mode left right r ⌝ }
 {
     Composite {
-        ff: level_of(mode, (left >> 23) % 2 == 1, (right >> 23) % 2 == 1),
-        ef: level_of(mode, (left >> 22) % 2 == 1, (right >> 22) % 2 == 1),
+        ff: level_of(mode, left >> 23, right >> 23),
+        ef: level_of(mode, left >> 22, right >> 22),
     }
 }
 
-fn level_of(mode: Mode, left: bool, right: bool) -> bool
-    ensures { λ r. ⌜ r ≡ level mode left right ⌝ }
+// The flag stands lowest in each answer so moved.
+fn level_of(mode: Mode, left: u32, right: u32) -> bool
+    ensures { λ r. ⌜ r ≡ level mode (isOdd left) (isOdd right) ⌝ }
 {
+    let left_high = left % 2 == 1;
+    let right_high = right % 2 == 1;
     match mode {
-        Mode::Standard => left & right,
-        Mode::Fwft { untaken: _ } => left | right,
+        Mode::Standard => left_high & right_high,
+        Mode::Fwft { untaken: _ } => left_high | right_high,
     }
 }
 
@@ -33,15 +35,9 @@ pub fn mode_after(mode: Mode, record: u32) -> Mode
     ensures { λ r. ⌜ ModeAfter mode «record» r ⌝ }
 {
     let p = pins::record::decode(record);
-    if p.mrs { mode } else { select(p.fwft) }
-}
-
-fn select(fwft: bool) -> Mode
-    ensures { λ r. ⌜ r ≡ selectedMode fwft ⌝ }
-{
-    if fwft {
-        Mode::Fwft { untaken: false }
+    if p.mrs {
+        mode
     } else {
-        Mode::Standard
+        chip::reset::select_mode(p.fwft)
     }
 }

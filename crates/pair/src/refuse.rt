@@ -1,5 +1,5 @@
 // What is turned away, from 4 on, of two records for two parts side by side.
-ghost use Rattle.pair.specs.Refuse.{RefusesPair, numbered, samePins};
+ghost use Rattle.pair.specs.Refuse.{RefusesPair, samePins};
 ghost use mathlib.Core.Path.{_≡_};
 use super::state::Halves;
 use counts::part::Part;
@@ -10,16 +10,10 @@ pub fn refusal(part: Part, left: u32, right: u32, state: Halves) -> u8
 {
     let by_left = fifo::sample::refuse_record(part, left, state.left);
     let by_right = fifo::sample::refuse_record(part, right, state.right);
-    choose(is_same_pins(left, right), by_left, by_right)
-}
-
-fn choose(same: bool, left: u8, right: u8) -> u8
-    ensures { λ r. ⌜ r ≡ numbered same left right ⌝ }
-{
-    if (left == 4) | (right == 4) {
+    if (by_left == 4) | (by_right == 4) {
         4
-    } else if same {
-        if left == 0 { right } else { left }
+    } else if is_same_pins(left, right) {
+        if by_left == 0 { by_right } else { by_left }
     } else {
         11
     }

@@ -1,6 +1,6 @@
 // The state of two parts side by side, and the test of 3.
 ghost use Rattle.chip.specs.ResetLaws.{isFwft};
-ghost use Rattle.pair.specs.State.{PoweredUp, Tested, alike};
+ghost use Rattle.pair.specs.State.{PoweredUp, Tested};
 ghost use mathlib.Core.Path.{_≡_};
 use chip::state::State;
 use counts::part::Part;
@@ -25,11 +25,11 @@ pub fn power_up() -> Halves
 pub fn passes_test(part: Part, state: Halves) -> bool
     ensures { λ r. ⌜ Tested part state r ⌝ }
 {
-    let left = state.left;
-    let right = state.right;
-    chip::state::passes_test(part, left)
-        & chip::state::passes_test(part, right)
-        & is_alike(is_fwft(left), is_fwft(right))
+    let left = is_fwft(state.left);
+    let right = is_fwft(state.right);
+    chip::state::passes_test(part, state.left)
+        & chip::state::passes_test(part, state.right)
+        & ((left & right) | (!left & !right))
 }
 
 fn is_fwft(state: State) -> bool
@@ -41,10 +41,4 @@ fn is_fwft(state: State) -> bool
         Mode::Standard => false,
         Mode::Fwft { untaken: _ } => true,
     }
-}
-
-fn is_alike(left: bool, right: bool) -> bool
-    ensures { λ r. ⌜ r ≡ alike left right ⌝ }
-{
-    if left { right } else { !right }
 }

@@ -1,19 +1,11 @@
--- The state that `power_up` gives is the one that the definition begins with.
-use borrow.Author.Needs.{needs}
-use Prim.Native.Nat.{ℕ}
+-- The state that a power-up gives is the one that the definition begins with; and what is told of a run's result.
 use mathlib.Core.List.{List}
+use Prim.Native.Nat.{ℕ}
 use mathlib.Core.Path.{_≡_, ap, subst}
-use Rattle.chip.specs.declared.state.State.{State}
-use Rattle.chip.specs.Reset.{poweredUp}
-use Rattle.runs.specs.declared.run.Ran.{Ran}
-use Rattle.runs.specs.Run.{Runs}
-use Rattle.run_c.specs.FromPowerUp.{RunsFromPowerUp}
+use Rattle.notes.specs.Fold.{Ended, EndsStrict}
 
-pub began : {number : ℕ} {bytes memory answers memory′ answers′ : List ℕ} {s : State} {r : Ran} → s ≡ poweredUp →
-    Runs number bytes s memory answers r memory′ answers′ → RunsFromPowerUp number bytes memory answers (r .index) memory′ answers′
-began {number = number} {bytes = bytes} {memory = memory} {answers = answers} {memory′ = memory′} {answers′ = answers′} {r = r} e h =
-    let g = subst (λ (s : State). Runs number bytes s memory answers r memory′ answers′) e h in
-    let index = ap (λ (ran : Ran). ran .index) (g .result) in
-    let words = g .words in
-    let room = g .room in
-    search needs
+pub began : {S M R Q : Type 0} {ran : Ended S M → R} (run : S → Ended S M) (told : R → Q) {s t : S} {r : R} {memory : M} {answers : List ℕ} → s ≡ t
+    → EndsStrict ran (run s) r memory answers → EndsStrict (λ e. told (ran e)) (run t) (told r) memory answers
+began {S = S} {ran = ran} run told {r = r} {memory = memory} {answers = answers} e h =
+    let g = subst (λ (u : S). EndsStrict ran (run u) r memory answers) e h in
+    record { result = ap told (g .result); words = g .words; room = g .room }

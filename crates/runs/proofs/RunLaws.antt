@@ -1,5 +1,5 @@
 -- The loop of a run, in the words of the code: what the calls of one turn gave.
-use Prim.Native.Nat.{ℕ, _+_, _*_, _≤_}
+use Prim.Native.Nat.{ℕ, _+_, _*_, _≤_, _<_}
 use mathlib.Core.Bool.{Bool, true, false, not, _&&_, _||_, and-eq-true-iff}
 use mathlib.Core.List.{List}
 use mathlib.Core.Logic.{_⊎_, ⊎-elim}
@@ -23,7 +23,7 @@ use Rattle.fifo.specs.SampleLaws.{step-length, step-widths}
 use Rattle.notes.specs.BeginLaws as begin
 use Rattle.notes.specs.Fold.{Ends, acceptedAfter, ended, marksAfter, stops}
 use Rattle.notes.specs.LoopLaws as loop
-use Rattle.notes.specs.LoopLaws.{Steady, ends}
+use Rattle.notes.specs.LoopLaws.{Steady}
 use Rattle.notes.specs.NoteLaws.{put-length}
 use Rattle.pins.proofs.trace.Record.{the-type}
 use Rattle.pins.specs.declared.trace.Record.{Record}
@@ -70,37 +70,33 @@ module _ {lenient : Bool} {part : Part} {bytes : List ℕ} {start g : Progress} 
   unfolding worked
   ended-now e n =
       let past = none-whole bytes index (rw f at e) in
-      let here : wholeRecords bytes ≡ index = omega (arith, inv .turns .below) in
-      let last = ap (λ (at : ℕ). trace.numberOf (recordAt bytes at)) here ∙ sym (rw f at n) in
-      ends (loop.ended-now lenient (turned part) (atEnd bytes) (λ at. wordAt bytes (at * 4)) (wholeRecords bytes) (widths part) length start (inv .turns) past
-      ∙ ap (λ (k : ℕ). ended k index g) last)
+      let here : index ≡ wholeRecords bytes = omega (arith, inv .turns .below) in
+      loop.ended-now lenient (turned part) (atEnd bytes) (λ at. wordAt bytes (at * 4)) (wholeRecords bytes) (widths part) length start (inv .turns) ranOf past
+      (rw f at n ∙ ap (λ (at : ℕ). trace.numberOf (recordAt bytes at)) here)
 
   module _ {word : ℕ} (e : r ≡ Whole word) {a : Sampled} {memory : List ℕ} (gives : Gives (stepped part word (g .state) (g .memory)) a memory)
       {number : ℕ} (n : number ≡ numberOf (a .outcome)) {stop : Bool} (t : stop ≡ stops lenient number) where
-    there : recordAt bytes index ≡ Whole word
-    there = sym f ∙ e
+    below : index < wholeRecords bytes
+    below = whole-below bytes index (sym f ∙ e)
 
     gave : turned part (wordAt bytes (index * 4)) (g .state) (g .memory) ≡ turn (record { sampled = a; memory = memory })
-    gave = rw (whole-word bytes index there) (λ i. turn (record { sampled = sym (gives .result) i; memory = sym (gives .words) i }))
+    gave = rw (whole-word bytes index (sym f ∙ e)) (λ i. turn (record { sampled = sym (gives .result) i; memory = sym (gives .words) i }))
 
     pub stopped-now : stop ≡ true
         → Ends ranOf (worked lenient part bytes start) (record { state = a .state; accepted = g .accepted; index = index; refusal = number })
         memory (g .answers) (g .marks)
     unfolding worked
-    stopped-now s =
-        rw n
-        (ends (loop.stopped-now lenient (turned part) (atEnd bytes) (λ at. wordAt bytes (at * 4)) (wholeRecords bytes) (widths part) length start (inv .turns)
-        (steady part) (whole-below bytes index there) gave (rw n at (sym t ∙ s))))
+    stopped-now =
+        loop.stopped-now lenient (turned part) (atEnd bytes) (λ at. wordAt bytes (at * 4)) (wholeRecords bytes) (widths part) length start (inv .turns)
+        (steady part) below gave n t ranOf
 
     pub turned-now : {accepted : ℕ} {answers marks : List ℕ} → stop ≡ false → answers ≡ answersAfter (a .outcome) index (g .answers)
         → marks ≡ marksAfter lenient number index (g .marks) → accepted ≡ acceptedAfter number (g .accepted)
         → Going lenient part bytes start (record { state = a .state; accepted = accepted; memory = memory; answers = answers; marks = marks }) (index + 1)
-    turned-now s l k m =
-        record {
-          turns = rw (l, k, m, n)
-              (loop.turned-now lenient (turned part) (atEnd bytes) (λ at. wordAt bytes (at * 4)) (wholeRecords bytes) (widths part) length start (inv .turns)
-              (steady part) (whole-below bytes index there) gave (rw n at (sym t ∙ s)));
-        }
+    turned-now s l k m = record {
+      turns = loop.turned-now lenient (turned part) (atEnd bytes) (λ at. wordAt bytes (at * 4)) (wholeRecords bytes) (widths part) length start (inv .turns)
+          (steady part) below gave n t s l k m;
+    }
 
 pub room-told : (lenient : Bool) (bytes : List ℕ) (g : Progress) (part : Part) → fitting lenient bytes g part ≡ true → wholeRecords bytes * 3 ≤ length (g .answers)
 room-told lenient bytes g part e =

@@ -11,7 +11,7 @@ returns-2 : tie.Need-returns-2
 returns-2 c =
     let decoded = c .before .before in
     let low = sym (ap (λ (p : Pins). p .mrs) (decoded .decode .ensures)) ∙ c .before .if1 .left in
-    simp (low, c .select .ensures, decoded .decode .ensures)
+    simp (low, c .select-mode .ensures, decoded .decode .ensures)
 
 pub mode-after-spec : {M : Type 1} → statement M
 mode-after-spec = tie.close (tie.spec (λ c κs. search needs) (λ c κs. search needs) returns returns-2)

@@ -7,10 +7,7 @@ returns : tie.Need-returns
 unfolding passesBoth
 returns c =
     let fwft = c .before .before in
-    let right = fwft .before in
-    simp (c .is-alike .ensures, c .before .is-fwft2 .ensures, fwft .is-fwft .ensures, right .passes-test2 .ensures, right .before .passes-test .ensures)
+    simp (c .passes-test2 .ensures, c .before .passes-test .ensures, fwft .is-fwft2 .ensures, fwft .before .is-fwft .ensures)
 
 pub passes-test-spec : {M : Type 1} → statement M
-passes-test-spec =
-    tie.close
-    (tie.spec (λ c κs. search needs) (λ c κs. search needs) (λ c κs. search needs) (λ c κs. search needs) (λ c κs. search needs) returns)
+passes-test-spec = tie.close (tie.spec (λ c κs. search needs) (λ c κs. search needs) (λ c κs. search needs) (λ c κs. search needs) returns)

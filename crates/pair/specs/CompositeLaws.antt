@@ -1,0 +1,98 @@
+-- The composite flags, sentence by sentence, and the timing mode that they go by.
+use Prim.Native.Nat.{ℕ}
+use mathlib.Core.Bool.{Bool, true, false, not, cond, _&&_, _||_, and-eq-true-iff, true≢false}
+use mathlib.Core.List.{List}
+use mathlib.Core.Logic.{_↔_}
+use mathlib.Core.Path.{_≡_, refl, sym, _∙_}
+use Rattle.chip.specs.declared.state.State.{State}
+use Rattle.chip.specs.Advance.{advanced}
+use Rattle.chip.specs.Reset.{selectedMode}
+use Rattle.chip.specs.ResetLaws.{isFwft, mode-follows, selected-fwft}
+use Rattle.counts.specs.declared.part.Part.{Part}
+use Rattle.fifo.specs.Sample.{fetchedFor, recordRefusal, stepped, taken}
+use Rattle.pins.specs.Record.{bit, pinsOf}
+use Rattle.sides.specs.declared.read.Mode.{Mode}
+use Rattle.sides.specs.declared.read.Mode.the-variants.{Standard, Fwft}
+use Rattle.pair.specs.declared.state.Halves.{Halves}
+use Rattle.pair.specs.Composite.{compositeOf, level, modeNext}
+use Rattle.pair.specs.Refuse.{pairRefusal}
+use Rattle.pair.specs.RefuseLaws.{shared}
+use Rattle.pair.specs.Sample.{After, pairStepped}
+use Rattle.pair.specs.SampleLaws.{free-both, single-taken, step-both, step-by}
+use Rattle.pair.specs.Two.{Two}
+
+or-low : (left right : Bool) → (left || right ≡ false) ↔ ((left ≡ false) × (right ≡ false))
+or-low true right = (λ e. absurd (true≢false e), λ e. e .0)
+or-low false right = (λ e. (refl, e), λ e. e .1)
+
+-- a flag's level allows what it stands for: FF a write, EF a read where HIGH, IR and OR where LOW
+abbrev pub allows : Mode → Bool → Bool
+allows Standard high = high
+allows (Fwft untaken) high = not high
+
+allows-both : (mode : Mode) (left right : Bool) → allows mode (level mode left right) ≡ allows mode left && allows mode right
+allows-both Standard left right = refl
+allows-both (Fwft untaken) true right = refl
+allows-both (Fwft untaken) false right = refl
+
+module _ (left right : ℕ) where
+  pub standard-ff : (compositeOf Standard left right .ff ≡ true) ↔ ((bit 23 left ≡ true) × (bit 23 right ≡ true))
+  unfolding compositeOf
+  standard-ff = and-eq-true-iff (bit 23 left) (bit 23 right)
+
+  pub standard-ef : (compositeOf Standard left right .ef ≡ true) ↔ ((bit 22 left ≡ true) × (bit 22 right ≡ true))
+  unfolding compositeOf
+  standard-ef = and-eq-true-iff (bit 22 left) (bit 22 right)
+
+  pub fwft-ir : (untaken : Bool) → (compositeOf (Fwft untaken) left right .ff ≡ false) ↔ ((bit 23 left ≡ false) × (bit 23 right ≡ false))
+  unfolding compositeOf
+  fwft-ir untaken = or-low (bit 23 left) (bit 23 right)
+
+  pub fwft-or : (untaken : Bool) → (compositeOf (Fwft untaken) left right .ef ≡ false) ↔ ((bit 22 left ≡ false) × (bit 22 right ≡ false))
+  unfolding compositeOf
+  fwft-or untaken = or-low (bit 22 left) (bit 22 right)
+
+  -- so the composite shows room, and a word ready, exactly where both parts do
+  pub room-both : (mode : Mode) → allows mode (compositeOf mode left right .ff) ≡ allows mode (bit 23 left) && allows mode (bit 23 right)
+  unfolding compositeOf
+  room-both mode = allows-both mode (bit 23 left) (bit 23 right)
+
+  pub word-both : (mode : Mode) → allows mode (compositeOf mode left right .ef) ≡ allows mode (bit 22 left) && allows mode (bit 22 right)
+  unfolding compositeOf
+  word-both mode = allows-both mode (bit 22 left) (bit 22 right)
+
+selected-by : (mrs fwft : Bool) (mode : Mode) → isFwft (cond mrs mode (selectedMode fwft)) ≡ cond mrs (isFwft mode) fwft
+selected-by true fwft mode = refl
+selected-by false fwft mode = selected-fwft fwft
+
+next-fwft : (mode : Mode) (x : ℕ) → isFwft (modeNext mode x) ≡ cond (pinsOf x .mrs) (isFwft mode) (pinsOf x .fwft)
+next-fwft mode x = selected-by (pinsOf x .mrs) (pinsOf x .fwft) mode
+
+half-told : (part : Part) (x : ℕ) (s : State) (memory : List ℕ) → recordRefusal part x s ≡ 0
+    → isFwft (stepped part x s memory .sampled .state .read .mode) ≡ isFwft (modeNext (s .read .mode) x)
+unfolding taken advanced
+half-told part x s memory e =
+    rw (single-taken part x s memory e) (mode-follows part (pinsOf x) (fetchedFor part s memory) s ∙ sym (next-fwft (s .read .mode) x))
+
+module _ (part : Part) (x : Two ℕ) (h : Halves) (memory : Two (List ℕ)) where
+  -- what a reader of answers works out is the mode of either half, as far as Standard or FWFT goes
+  pub mode-told : pairRefusal part x h ≡ 0 → let after = pairStepped part x h memory .sampled .state in
+      (isFwft (after .left .read .mode) ≡ isFwft (modeNext (h .left .read .mode) (x .left)))
+      × (isFwft (after .right .read .mode) ≡ isFwft (modeNext (h .right .read .mode) (x .right)))
+  mode-told e =
+      let free = free-both part x h e in
+      rw (step-both part x h memory e)
+      (half-told part (x .left) (h .left) (memory .left) (free .0), half-told part (x .right) (h .right) (memory .right) (free .1))
+
+  -- so a sample keeps both halves in one mode, taken or not
+  pub one-mode-stays : isFwft (h .left .read .mode) ≡ isFwft (h .right .read .mode) → let after = pairStepped part x h memory .sampled .state in
+      isFwft (after .left .read .mode) ≡ isFwft (after .right .read .mode)
+  one-mode-stays same =
+      step-by part x h memory (λ (a : After). isFwft (a .sampled .state .left .read .mode) ≡ isFwft (a .sampled .state .right .read .mode))
+      (λ e.
+      let free = free-both part x h e in
+      let pins = shared (x .left) (x .right) (free .2) in
+      let left = half-told part (x .left) (h .left) (memory .left) (free .0) ∙ next-fwft (h .left .read .mode) (x .left) in
+      let right = half-told part (x .right) (h .right) (memory .right) (free .1) ∙ next-fwft (h .right .read .mode) (x .right) in
+      left ∙ rw (pins .mrs, pins .fwft, same) (sym right))
+      same

@@ -1,0 +1,3 @@
+// Two parts side by side over a whole trace: a run, strict or lenient.
+pub mod run;
+pub mod samples;
