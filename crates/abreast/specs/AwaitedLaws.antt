@@ -1,6 +1,6 @@
 -- The composite flags in the last answers show room, or a word ready, only where both parts do.
 use Prim.Native.Nat.{ℕ}
-use mathlib.Core.Bool.{Bool, true, false, not, cond, _&&_, _||_, true≢false}
+use mathlib.Core.Bool.{Bool, true, false, not, cond, _&&_, _||_, and-eq-true-iff, true≢false}
 use mathlib.Core.List.{List}
 use mathlib.Core.Logic.{_↔_}
 use mathlib.Core.Path.{_≡_, refl, sym, ap, subst, _∙_}
@@ -68,17 +68,20 @@ module _ (part : Part) (b : Pairing) (g : Paired part b) (x : Records) where
     pub show-next : ShowBoth part there
     show-next = show-by (pairTakes part b x) refl
 
-room-each : (fwft left right : Bool) → tellsFull fwft (level (selectedMode fwft) left right) ≡ false → (tellsFull fwft left ≡ false) × (tellsFull fwft right ≡ false)
-room-each true false right e = (refl, e)
-room-each true true right e = absurd (true≢false e)
-room-each false true right e = (refl, e)
-room-each false false right e = absurd (true≢false e)
+-- the composite shows full where either part does, and a word ready where both do
+pub full-either : (fwft left right : Bool) → tellsFull fwft (level (selectedMode fwft) left right) ≡ tellsFull fwft left || tellsFull fwft right
+full-either true left right = refl
+full-either false true right = refl
+full-either false false right = refl
 
-word-each : (fwft left right : Bool) → tellsReady fwft (level (selectedMode fwft) left right) ≡ true → (tellsReady fwft left ≡ true) × (tellsReady fwft right ≡ true)
-word-each true false right e = (refl, e)
-word-each true true right e = absurd (true≢false (sym e))
-word-each false true right e = (refl, e)
-word-each false false right e = absurd (true≢false (sym e))
+pub word-both : (fwft left right : Bool) → tellsReady fwft (level (selectedMode fwft) left right) ≡ tellsReady fwft left && tellsReady fwft right
+word-both true true right = refl
+word-both true false right = refl
+word-both false left right = refl
+
+neither : (left right : Bool) → left || right ≡ false → (left ≡ false) × (right ≡ false)
+neither true right e = absurd (true≢false e)
+neither false right e = (refl, e)
 
 module _ (part : Part) (b : Pairing) (g : Paired part b) (shown : ShowBoth part b) where
   abbrev fwft : Bool
@@ -87,11 +90,11 @@ module _ (part : Part) (b : Pairing) (g : Paired part b) (shown : ShowBoth part 
   pub room-shown : tellsFull fwft (composite b .ff) ≡ false → ShowsRoom part (b .left) × ShowsRoom part (b .right)
   unfolding compositeOf
   room-shown e =
-      let each = room-each fwft (bit 23 (b .answers .left)) (bit 23 (b .answers .right)) e in
+      let each = neither _ _ (sym (full-either fwft (bit 23 (b .answers .left)) (bit 23 (b .answers .right))) ∙ e) in
       (shown .left .room (each .0), shown .right .room (rw (← g .mode) (each .1)))
 
   pub word-shown : tellsReady fwft (composite b .ef) ≡ true → ShowsWord part (b .left) × ShowsWord part (b .right)
   unfolding compositeOf
   word-shown e =
-      let each = word-each fwft (bit 22 (b .answers .left)) (bit 22 (b .answers .right)) e in
+      let each = and-eq-true-iff _ _ .0 (sym (word-both fwft (bit 22 (b .answers .left)) (bit 22 (b .answers .right))) ∙ e) in
       (shown .left .word (each .0), shown .right .word (rw (← g .mode) (each .1)))

@@ -25,7 +25,7 @@ use Rattle.history.specs.TakenLaws.{takes-free}
 use Rattle.history.specs.Tight.{tried, zeros}
 use Rattle.history.specs.Trace.{Moment, next, powerUp}
 use Rattle.abreast.specs.Abreast.{Records, TakenSame}
-use Rattle.abreast.specs.AwaitedLaws.{tell-both}
+use Rattle.abreast.specs.AwaitedLaws.{full-either, tell-both, word-both}
 use Rattle.abreast.specs.Examples.{apart-by-ef, readByEf}
 use Rattle.abreast.specs.Filled.{filledThen}
 use Rattle.abreast.specs.FullExamples.{apart-by-ff, writeByFf}
@@ -33,18 +33,6 @@ use Rattle.abreast.specs.Pairing.{EachOf, NeverApart, Pairing, RoomAwait
 use Rattle.abreast.specs.PairingLaws.{Paired, pair-steps, paired-next, paired-powered, taken-each, taken-told}
 use Rattle.abreast.specs.Seen as seen
 use Rattle.abreast.specs.Seen.{Seen, asksToRead, asksToWrite, seenFrom, takenSame}
-
-room-both : (fwft left right : Bool) → tellsFull fwft left ≡ false → tellsFull fwft right ≡ false → tellsFull fwft (level (selectedMode fwft) left right) ≡ false
-room-both true false right e f = f
-room-both true true right e f = absurd (true≢false e)
-room-both false true right e f = f
-room-both false false right e f = absurd (true≢false e)
-
-word-both : (fwft left right : Bool) → tellsReady fwft left ≡ true → tellsReady fwft right ≡ true → tellsReady fwft (level (selectedMode fwft) left right) ≡ true
-word-both true false right e f = f
-word-both true true right e f = absurd (true≢false (sym e))
-word-both false true right e f = f
-word-both false false right e f = absurd (true≢false (sym e))
 
 -- the composite shows what both parts show
 record Composed (part : Part) (b : Pairing) : Type 0 where
@@ -77,8 +65,8 @@ module _ (part : Part) (b : Pairing) (g : Paired part b) (x : Records) (taken : 
       let left = there .answers .left in
       let right = there .answers .right in
       record {
-        room = λ one other. room-both fwft (bit 23 left) (bit 23 right) (told .0 .room .1 one) (rw mode (told .1 .room .1 other));
-        word = λ one other. word-both fwft (bit 22 left) (bit 22 right) (told .0 .word .1 one) (rw mode (told .1 .word .1 other));
+        room = λ one other. full-either fwft (bit 23 left) (bit 23 right) ∙ rw (told .0 .room .1 one) (rw mode (told .1 .room .1 other));
+        word = λ one other. word-both fwft (bit 22 left) (bit 22 right) ∙ rw (told .0 .word .1 one) (rw mode (told .1 .word .1 other));
       }
 
 module _ (part : Part) where

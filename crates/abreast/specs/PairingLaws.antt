@@ -22,7 +22,7 @@ use Rattle.pair.specs.Refuse.{pairRefusal, samePins}
 use Rattle.pair.specs.Sample.{After, both, isTaken, numberOf, pairStepped, turnedAway}
 use Rattle.pair.specs.SampleLaws.{free-both, refused-still, sample-is-step, step-numbered, taken-both}
 use Rattle.pair.specs.State.{passesBoth}
-use Rattle.pair.specs.StateLaws.{same-alike}
+use Rattle.pair.specs.StateLaws.{alike-itself}
 use Rattle.pair.specs.Two.{Two, two}
 use Rattle.pins.specs.Record.{pinsOf}
 use Rattle.refusals.specs.ReachLaws.{reached-passes}
@@ -81,11 +81,12 @@ module _ (part : Part) (b : Pairing) (g : Paired part b) where
   pub passes-test : passesBoth part (halvesOf b) ≡ true
   unfolding passesBoth
   passes-test =
+      let mode : isFwft (b .left .state .read .mode) ≡ isFwft (b .right .state .read .mode) = sym (g .left .agrees .fwft) ∙ g .mode ∙ g .right .agrees .fwft in
       simp (
         reached-passes part (b .left .state) (g .leftCounts) (g .left .reached),
         reached-passes part (b .right .state) (g .rightCounts) (g .right .reached),
-        same-alike (isFwft (b .left .state .read .mode)) (isFwft (b .right .state .read .mode))
-            (sym (g .left .agrees .fwft) ∙ g .mode ∙ g .right .agrees .fwft),
+        mode,
+        alike-itself (isFwft (b .right .state .read .mode)),
       )
 
   sized : isDepth part (length (b .left .memory)) && isDepth part (length (b .right .memory)) ≡ true

@@ -16,7 +16,7 @@ alike-same true false e = absurd (true≢false (sym e))
 alike-same false true e = absurd (true≢false (sym e))
 alike-same false false e = refl
 
-alike-itself : (fwft : Bool) → alike fwft fwft ≡ true
+pub alike-itself : (fwft : Bool) → alike fwft fwft ≡ true
 alike-itself true = refl
 alike-itself false = refl
 
