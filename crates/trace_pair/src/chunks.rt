@@ -1,12 +1,12 @@
 // The trace worked chunk by chunk.
 use super::composites;
+use halves::state::Halves;
 use input::chunks;
 use input::chunks::RECORDS;
 use lines::records;
 use lines::records::Layout;
 use lines::tally;
 use lines::tally::Tally;
-use pair::state::Halves;
 use pair_runs::run::Ran;
 
 const CHUNK: usize = RECORDS * 8;
@@ -31,7 +31,7 @@ fn work_chunks(
     room: &mut [u8],
 ) -> Tally {
     let mut progress = Progress {
-        state: pair::state::power_up(),
+        state: halves::state::power_up(),
         tally: tally::start(),
     };
     // No contract says that the input ends, so a count of the chunks that are to come does.

@@ -1,8 +1,8 @@
 // The composite flags of a chunk's samples, worked out from their records and answers once the run has written those down.
 ghost use Prim.Native.Nat.{_+_, _<_, _≤_};
 ghost use lib.ListN.{length};
+use halves::state::Halves;
 use input::chunks::RECORDS;
-use pair::state::Halves;
 use sides::read::Mode;
 
 pub(crate) fn note_all(
@@ -51,10 +51,10 @@ fn note(
     if marks[i] != 0 {
         return mode;
     }
-    let after = pair::composite::mode_after(mode, pins::trace::word_at(trace, i * 8));
+    let after = halves::composite::mode_after(mode, pins::trace::word_at(trace, i * 8));
     let left = answer_at(answers, i * 6);
     let right = answer_at(answers, i * 6 + 3);
-    let composite = pair::composite::compose(after, left, right);
+    let composite = halves::composite::compose(after, left, right);
     lines::flags::note(flags, i, composite.ff, composite.ef);
     after
 }
