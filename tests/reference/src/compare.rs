@@ -4,6 +4,8 @@ use std::time::Duration;
 
 use crate::corners::Corners;
 use crate::library::{Difference, Library};
+use crate::pair::onlooker::Watched;
+use crate::pair::traffic;
 use crate::plans::{jobs, Amount};
 use crate::program::{expected, printed, Launch, Single, Traced};
 use crate::random::Random;
@@ -68,8 +70,20 @@ pub fn program(launch: &Launch, amount: Amount, seed: u64, corners: &mut Corners
         let (trace, _) = generated(job, false, random.draw(), &mut Corners::default());
         damaged(trace.input(), &mut random)
     });
-    let inputs = odd_inputs::<Single>().into_iter().chain(traces);
-    differing::<Single>(launch, inputs.map(|input| (input, manner.one_in(3))), corners)
+    let traces = traces.map(|input| (input, manner.one_in(3)));
+    differing::<Single>(launch, odd_inputs::<Single>().chain(traces), corners)
+}
+
+pub fn pair(launch: &Launch, amount: Amount, seed: u64, corners: &mut Corners) -> Option<Counterexample> {
+    let mut random = Random::new(seed);
+    let mut on_the_way = Corners::default();
+    let traces = traffic::jobs(amount, &mut random).into_iter().map(|(job, user)| {
+        let (input, lenient) = traffic::generated(job, user, random.draw(), &mut on_the_way);
+        (if job.plan.far { input } else { damaged(input, &mut random) }, lenient)
+    });
+    let counterexample = differing::<Watched>(launch, odd_inputs::<Watched>().chain(traces), corners);
+    corners.add(&on_the_way);
+    counterexample
 }
 
 /// The first input on which the program prints other lines than the reference does. Some inputs are for a lenient run.
@@ -83,17 +97,19 @@ fn differing<T: Traced>(
     differing.map(|(input, lenient)| smallest_input::<T>(launch, input, lenient))
 }
 
-/// Inputs that hold no trace, or none to its end.
-fn odd_inputs<T: Traced>() -> Vec<Vec<u8>> {
+/// Inputs that hold no trace, or none to its end, strict and lenient by turns. They are odd in number for each part, so that
+/// what is strict for the one part is lenient for the other.
+fn odd_inputs<T: Traced>() -> impl Iterator<Item = (Vec<u8>, bool)> {
     let mut inputs = vec![vec![], vec![0], vec![0xFF], vec![0, 0], vec![0xFF, 0], vec![1, 0xFF, 0, 0, 0, 0]];
     for part in [[0, 0xFF], [1, 9]] {
-        let reset = [0x4D, 0x98, 0, 0].repeat(T::BYTES / 4);
+        let [reset, still] = [[0x4D, 0x98, 0, 0], [0xCF, 0x98, 0, 0]].map(|record| record.repeat(T::BYTES / 4));
+        inputs.push([&part[..], &still[..], &reset[..]].concat());
         for left_over in 0..T::BYTES {
             inputs.push([&part[..], &reset[..left_over]].concat());
             inputs.push([&part[..], &reset[..], &reset[..left_over]].concat());
         }
     }
-    inputs
+    inputs.into_iter().zip([false, true].into_iter().cycle())
 }
 
 /// Every third input with one bit turned over, one byte too few or too many, or the end lost.
