@@ -1,4 +1,4 @@
-//! The reference against the library and against the trace program, on many traces.
+//! The reference against the library and against the trace programs, on many traces.
 
 use std::time::Duration;
 
@@ -17,14 +17,14 @@ const FOR_SHRINKING: Duration = Duration::from_secs(20);
 /// More steps than this are not printed.
 const READABLE: usize = 64;
 
-/// A trace on which the two differ, made small: as an input of the trace program, and in words.
+/// A trace on which the two differ, made small: as an input of its trace program, and in words.
 pub struct Counterexample {
     pub input: Vec<u8>,
     pub words: String,
 }
 
 impl Counterexample {
-    /// One that is no input of the trace program.
+    /// One that is no input of a trace program.
     pub fn told(kind: &str, words: String) -> Counterexample {
         Counterexample { input: Vec::new(), words: format!("{kind}: {words}") }
     }

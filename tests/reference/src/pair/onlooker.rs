@@ -12,7 +12,7 @@ pub struct Words {
     pub taken: u64,
 }
 
-/// What a write and a read have in common: asked for, or allowed by a flag.
+/// The same question on either side: whether its clock is HIGH or rises, whether it is asked, whether a flag allows it.
 #[derive(Clone, Copy, Default, PartialEq, Eq, Debug)]
 pub struct Each {
     pub write: bool,
