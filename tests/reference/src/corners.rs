@@ -173,6 +173,8 @@ corners! {
     PairFullRight Both "pair: FF/IR HIGH on the right alone",
     PairEmptyLeft Both "pair: EF/OR HIGH on the left alone",
     PairEmptyRight Both "pair: EF/OR HIGH on the right alone",
+    PairModeChanged Both "pair: flags apart after a reset to the other mode",
+    PairModeKept Both "pair: flags apart after such a reset was refused",
     PairAcceptedLeft Both "pair: more words accepted on the left",
     PairAcceptedRight Both "pair: more words accepted on the right",
     PairTakenLeft Both "pair: more words taken on the left",

@@ -32,6 +32,10 @@ pub struct Onlooker {
 pub struct Watched {
     pub pair: Pair,
     pub onlooker: Onlooker,
+    /// The last Master Reset changed the mode.
+    pub mode_changed: bool,
+    /// One to the other mode was refused since.
+    pub mode_kept: bool,
 }
 
 fn shown(mode: Mode, [full, empty]: [bool; 2]) -> Each {
@@ -87,12 +91,22 @@ impl Onlooker {
 
 impl Watched {
     pub fn power_up(part: Part) -> Watched {
-        Watched { pair: Pair::power_up(part), onlooker: Onlooker::power_up() }
+        let (pair, onlooker) = (Pair::power_up(part), Onlooker::power_up());
+        Watched { pair, onlooker, mode_changed: false, mode_kept: false }
     }
 
     pub fn sample(&mut self, records: [u32; 2]) -> Result<[u32; 2], u32> {
-        let answers = self.pair.sample(records)?;
-        self.onlooker.see(Pins::of(records[0]), self.pair.mode(), answers);
-        Ok(answers)
+        let pins = Pins::of(records[0]);
+        let other_mode = self.pair.halves[0].started() && pins.fwft_si == (self.pair.mode() == Mode::Standard);
+        let outcome = self.pair.sample(records);
+        if let Ok(answers) = outcome {
+            self.onlooker.see(pins, self.pair.mode(), answers);
+        }
+        match outcome {
+            _ if pins.mrs => (),
+            Ok(_) => (self.mode_changed, self.mode_kept) = (other_mode, false),
+            Err(_) => self.mode_kept |= other_mode,
+        }
+        outcome
     }
 }

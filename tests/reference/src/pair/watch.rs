@@ -29,6 +29,8 @@ impl Corners {
         note(Corner::PairFullRight, right[0] && !left[0]);
         note(Corner::PairEmptyLeft, left[1] && !right[1]);
         note(Corner::PairEmptyRight, right[1] && !left[1]);
+        note(Corner::PairModeChanged, left != right && after.mode_changed);
+        note(Corner::PairModeKept, left != right && after.mode_kept);
         let [left, right] = after.onlooker.words;
         note(Corner::PairAcceptedLeft, left.accepted > right.accepted);
         note(Corner::PairAcceptedRight, right.accepted > left.accepted);
