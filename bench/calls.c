@@ -1,7 +1,8 @@
-// calls [RUST-255 RUST-265 [PLAIN-255 PLAIN-265]]: times the C call and the run against the plain C model in this one
-// process, prints the ratios, then the cost of a record for traces of many lengths. The arguments are nanoseconds that a
-// record of the same traffic takes elsewhere: by the Rust reference, and, where that was built for another processor than
-// this program, by the plain C model built for that processor too.
+// calls [RUST-255 RUST-265 [PLAIN-255 PLAIN-265]]: times the C call and the run against the plain C model, and the pair's
+// run against the run, in this one process, prints the ratios, then the cost of a record for traces of many lengths. The
+// arguments are nanoseconds that a record of the same traffic takes elsewhere: by the Rust reference, and, where that was
+// built for another processor than this program, by the plain C model built for that processor too.
+#include "halves.h"
 #include "timing.h"
 
 #include <stdio.h>
@@ -48,14 +49,17 @@ static void print_row(const char *name, struct row row, const char *remark)
     printf("   %s\n", remark);
 }
 
-static void measure(struct job *job, struct row cost[MODELS])
+static void measure(struct job *job, struct job *pair, struct row cost[MODELS], struct row *pair_cost)
 {
     for (int part = 0; part < PARTS; part++) {
         size_t opening = put_trace(job, numbers[part], TRAFFIC_SWEPT, RATIO_RECORDS);
         for (int i = 1; i < MODELS; i++)
             compare_answers(models[0], models[i], job, opening + RATIO_RECORDS);
+        put_halves(pair, job, opening + RATIO_RECORDS);
+        compare_halves(pair, job, opening + RATIO_RECORDS);
         for (int i = 0; i < MODELS; i++)
             cost[i].of[part] = nanoseconds(models[i], job, opening, RATIO_RECORDS);
+        pair_cost->of[part] = nanoseconds(&by_pair_run, pair, opening, RATIO_RECORDS);
     }
 }
 
@@ -68,6 +72,13 @@ static void print_ratios(const struct row cost[MODELS])
     print_row("C call / plain C model", ratio(cost[C_CALL], cost[PLAIN_MODEL]), "goal 1.00");
     print_row("run / plain C model", ratio(cost[RUN], cost[PLAIN_MODEL]), "goal 0.50");
     print_row("run / plain C run", ratio(cost[RUN], cost[PLAIN_RUN]), "");
+}
+
+static void print_pair_ratio(struct row pair_cost, struct row run_cost)
+{
+    const struct row two = {{2, 2}};
+    print_row(by_pair_run.name, pair_cost, "ns a sample");
+    print_row("pair's run / twice the run", ratio(pair_cost, product(two, run_cost)), "goal 1.15");
 }
 
 static void print_reference_ratios(const struct row cost[MODELS], struct row reference)
@@ -120,13 +131,16 @@ static void print_tables(struct job *job)
 int main(int count, char **arguments)
 {
     struct row cost[MODELS];
+    struct row pair_cost;
     if (count != 1 && count != 1 + PARTS && count != 1 + 2 * PARTS) {
         fputs("usage: calls [RUST-255 RUST-265 [PLAIN-255 PLAIN-265]]\n", stderr);
         return 2;
     }
-    struct job job = new_job(LONGEST);
-    measure(&job, cost);
+    struct job job = new_job(LONGEST, 1);
+    struct job pair = new_job(RATIO_RECORDS, 2);
+    measure(&job, &pair, cost, &pair_cost);
     print_ratios(cost);
+    print_pair_ratio(pair_cost, cost[RUN]);
     if (count == 1 + PARTS)
         print_reference_ratios(cost, read_row(arguments + 1));
     if (count == 1 + 2 * PARTS)

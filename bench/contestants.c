@@ -22,8 +22,15 @@ static size_t work_by_run(const struct job *job, size_t records)
     return fifo_run(job->number, job->trace, 4 * records, job->words, job->depth, job->answers, 3 * records);
 }
 
+static size_t work_by_pair_run(const struct job *job, size_t samples)
+{
+    return pair_run(job->number, job->trace, 8 * samples, job->words, job->depth, job->right_words, job->depth,
+                    job->answers, 6 * samples);
+}
+
 static const struct model by_c_call = {"C call", work_by_c_call};
 static const struct model by_run = {"run", work_by_run};
+const struct model by_pair_run = {"pair's run", work_by_pair_run};
 
 const struct model *const models[MODELS] = {
     [PLAIN_MODEL] = &by_plain_model,

@@ -11,6 +11,7 @@ struct job {
     uint8_t *trace;
     uint8_t *answers;
     uint32_t *words;
+    uint32_t *right_words; // of the pair's right part
     uint8_t *memory; // as the C call wants it, in bytes
 };
 
@@ -26,5 +27,8 @@ extern const struct model by_plain_run;
 
 enum { PLAIN_MODEL, PLAIN_RUN, C_CALL, RUN, MODELS };
 extern const struct model *const models[MODELS];
+
+// Its records are samples of two.
+extern const struct model by_pair_run;
 
 #endif

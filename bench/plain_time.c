@@ -13,7 +13,7 @@ int main(int count, char **arguments)
         fputs("usage: plain_time PART RECORDS\n", stderr);
         return 2;
     }
-    struct job job = new_job(records);
+    struct job job = new_job(records, 1);
     size_t opening = put_trace(&job, number, TRAFFIC_SWEPT, records);
     printf("%.2f\n", nanoseconds(&by_plain_model, &job, opening, records));
     return 0;

@@ -19,13 +19,14 @@ static void *lend(size_t bytes)
     return room;
 }
 
-struct job new_job(size_t records)
+struct job new_job(size_t samples, size_t records_each)
 {
-    size_t most = records + 1 + 2 * DEEPEST;
+    size_t most = (samples + 1 + 2 * DEEPEST) * records_each;
     return (struct job){
         .trace = lend(4 * most),
         .answers = lend(3 * most),
         .words = lend(4 * DEEPEST),
+        .right_words = lend(4 * DEEPEST),
         .memory = lend(4 * DEEPEST),
     };
 }
@@ -41,7 +42,7 @@ size_t put_trace(struct job *job, uint32_t number, enum traffic_fill fill, size_
     return opening;
 }
 
-static void work(const struct model *model, const struct job *job, size_t records)
+void work(const struct model *model, const struct job *job, size_t records)
 {
     size_t taken = model->work(job, records);
     if (taken != records) {

@@ -5,11 +5,14 @@
 #include "contestants.h"
 #include "traffic.h"
 
-// With room for a trace of so many records of traffic, on either part.
-struct job new_job(size_t records);
+// With room for a trace of so many samples of traffic on either part, each of so many records.
+struct job new_job(size_t samples, size_t records_each);
 
 // The number of records in the opening, before the traffic.
 size_t put_trace(struct job *job, uint32_t number, enum traffic_fill fill, size_t records);
+
+// Ends the program where a record is refused.
+void work(const struct model *model, const struct job *job, size_t records);
 
 // Ends the program unless both models give the same answers.
 void compare_answers(const struct model *model, const struct model *other, const struct job *job, size_t records);

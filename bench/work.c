@@ -24,7 +24,7 @@ int main(int count, char **arguments)
         fprintf(stderr, "usage: work MODEL RECORDS, at most %d\n", TRAFFIC_RECORDS);
         return 2;
     }
-    struct job job = new_job(TRAFFIC_RECORDS);
+    struct job job = new_job(TRAFFIC_RECORDS, 1);
     put_trace(&job, 255, TRAFFIC_SWEPT, TRAFFIC_RECORDS);
     return model->work(&job, records) == records ? 0 : 1;
 }

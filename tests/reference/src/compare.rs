@@ -1,11 +1,13 @@
-//! The reference against the library and against the trace program, on many traces.
+//! The reference against the library and against the trace programs, on many traces.
 
 use std::time::Duration;
 
 use crate::corners::Corners;
 use crate::library::{Difference, Library};
+use crate::pair::onlooker::Watched;
+use crate::pair::traffic;
 use crate::plans::{jobs, Amount};
-use crate::program::{expected, printed, Launch};
+use crate::program::{expected, printed, Launch, Single, Traced};
 use crate::random::Random;
 use crate::shrink::shrunk;
 use crate::trace::{generated, Step, Trace};
@@ -15,14 +17,14 @@ const FOR_SHRINKING: Duration = Duration::from_secs(20);
 /// More steps than this are not printed.
 const READABLE: usize = 64;
 
-/// A trace on which the two differ, made small: as an input of the trace program, and in words.
+/// A trace on which the two differ, made small: as an input of its trace program, and in words.
 pub struct Counterexample {
     pub input: Vec<u8>,
     pub words: String,
 }
 
 impl Counterexample {
-    /// One that is no input of the trace program.
+    /// One that is no input of a trace program.
     pub fn told(kind: &str, words: String) -> Counterexample {
         Counterexample { input: Vec::new(), words: format!("{kind}: {words}") }
     }
@@ -62,39 +64,59 @@ fn smallest_trace(library: &mut Library, trace: Trace, difference: Difference) -
 
 pub fn program(launch: &Launch, amount: Amount, seed: u64, corners: &mut Corners) -> Option<Counterexample> {
     let mut random = Random::new(seed);
-    let mut inputs = odd_inputs();
-    for job in jobs(amount, &mut random) {
+    let mut manner = Random::new(random.draw());
+    let jobs = jobs(amount, &mut random).into_iter();
+    let traces = jobs.map(|job| {
         let (trace, _) = generated(job, false, random.draw(), &mut Corners::default());
-        let mut input = trace.input();
-        if random.one_in(3) {
-            damage(&mut input, &mut random);
-        }
-        inputs.push(input);
-        while let Some(input) = inputs.pop() {
-            let lenient = random.one_in(3);
-            if expected(&input, lenient, corners) != printed(launch, &input, lenient) {
-                return Some(smallest_input(launch, input, lenient));
-            }
-        }
-    }
-    None
+        damaged(trace.input(), &mut random)
+    });
+    let traces = traces.map(|input| (input, manner.one_in(3)));
+    differing::<Single>(launch, odd_inputs::<Single>().chain(traces), corners)
 }
 
-/// Inputs that hold no trace, or none to its end.
-fn odd_inputs() -> Vec<Vec<u8>> {
+pub fn pair(launch: &Launch, amount: Amount, seed: u64, corners: &mut Corners) -> Option<Counterexample> {
+    let mut random = Random::new(seed);
+    let mut on_the_way = Corners::default();
+    let traces = traffic::jobs(amount, &mut random).into_iter().map(|(job, user)| {
+        let (input, lenient) = traffic::generated(job, user, random.draw(), &mut on_the_way);
+        (if job.plan.far { input } else { damaged(input, &mut random) }, lenient)
+    });
+    let counterexample = differing::<Watched>(launch, odd_inputs::<Watched>().chain(traces), corners);
+    corners.add(&on_the_way);
+    counterexample
+}
+
+/// The first input on which the program prints other lines than the reference does. Some inputs are for a lenient run.
+fn differing<T: Traced>(
+    launch: &Launch,
+    mut inputs: impl Iterator<Item = (Vec<u8>, bool)>,
+    corners: &mut Corners,
+) -> Option<Counterexample> {
+    let differing =
+        inputs.find(|(input, lenient)| expected::<T>(input, *lenient, corners) != printed(launch, input, *lenient));
+    differing.map(|(input, lenient)| smallest_input::<T>(launch, input, lenient))
+}
+
+/// Inputs that hold no trace, or none to its end, strict and lenient by turns. They are odd in number for each part, so that
+/// what is strict for the one part is lenient for the other.
+fn odd_inputs<T: Traced>() -> impl Iterator<Item = (Vec<u8>, bool)> {
     let mut inputs = vec![vec![], vec![0], vec![0xFF], vec![0, 0], vec![0xFF, 0], vec![1, 0xFF, 0, 0, 0, 0]];
     for part in [[0, 0xFF], [1, 9]] {
-        let reset = [0x4D, 0x98, 0, 0];
-        for left_over in 0..4 {
+        let [reset, still] = [[0x4D, 0x98, 0, 0], [0xCF, 0x98, 0, 0]].map(|record| record.repeat(T::BYTES / 4));
+        inputs.push([&part[..], &still[..], &reset[..]].concat());
+        for left_over in 0..T::BYTES {
             inputs.push([&part[..], &reset[..left_over]].concat());
             inputs.push([&part[..], &reset[..], &reset[..left_over]].concat());
         }
     }
-    inputs
+    inputs.into_iter().zip([false, true].into_iter().cycle())
 }
 
-/// One bit turned over, one byte too few or too many, or the end lost.
-fn damage(input: &mut Vec<u8>, random: &mut Random) {
+/// Every third input with one bit turned over, one byte too few or too many, or the end lost.
+fn damaged(mut input: Vec<u8>, random: &mut Random) -> Vec<u8> {
+    if !random.one_in(3) {
+        return input;
+    }
     let place = random.below(input.len() as u64) as usize;
     match random.below(4) {
         0 => input[place] ^= 1 << random.below(8),
@@ -102,23 +124,24 @@ fn damage(input: &mut Vec<u8>, random: &mut Random) {
         2 => input.insert(place, random.bits() as u8),
         _ => input.truncate(place),
     }
+    input
 }
 
-fn smallest_input(launch: &Launch, input: Vec<u8>, lenient: bool) -> Counterexample {
-    let told = |input: &[u8]| expected(input, lenient, &mut Corners::default());
-    let (part, records) = input.split_at(input.len().min(2));
-    let records: Vec<&[u8]> = records.chunks(4).collect();
-    let whole = |records: &[&[u8]]| [part, &records.concat()].concat();
+fn smallest_input<T: Traced>(launch: &Launch, input: Vec<u8>, lenient: bool) -> Counterexample {
+    let told = |input: &[u8]| expected::<T>(input, lenient, &mut Corners::default());
+    let (part, samples) = input.split_at(input.len().min(2));
+    let samples: Vec<&[u8]> = samples.chunks(T::BYTES).collect();
+    let whole = |samples: &[&[u8]]| [part, &samples.concat()].concat();
     let first = first_difference(&told(&input), &printed(launch, &input, lenient));
-    let cut = records[..records.len().min(first + 1)].to_vec();
-    let differs = |records: &[&[u8]]| told(&whole(records)) != printed(launch, &whole(records), lenient);
-    let records = if differs(&cut) { shrunk(cut, FOR_SHRINKING, differs) } else { records };
-    let input = whole(&records);
+    let cut = samples[..samples.len().min(first + 1)].to_vec();
+    let differs = |samples: &[&[u8]]| told(&whole(samples)) != printed(launch, &whole(samples), lenient);
+    let samples = if differs(&cut) { shrunk(cut, FOR_SHRINKING, differs) } else { samples };
+    let input = whole(&samples);
     let hex: String = input.iter().take(4 * READABLE).map(|byte| format!("{byte:02X}")).collect();
     let (ours, theirs) = (told(&input), printed(launch, &input, lenient));
     let line = first_difference(&ours, &theirs);
     let (our, their) = (ours.lines().nth(line), theirs.lines().nth(line));
-    let words = format!("trace program, lenient {lenient}: {hex}\nline {line}: expected {our:?}, got {their:?}");
+    let words = format!("{}, lenient {lenient}: {hex}\nline {line}: expected {our:?}, got {their:?}", launch.program);
     Counterexample { input, words }
 }
 

@@ -143,6 +143,67 @@ corners! {
     UnknownPart Anywhere "unknown part",
     NoPart Anywhere "input under two bytes",
     NoRecords Anywhere "no records",
+    PairSpareLeft Both "pair: 4 by the left record alone",
+    PairSpareRight Both "pair: 4 by the right record alone",
+    PairSpareBoth Both "pair: 4 by both records",
+    PairSpareFirst Both "pair: 4 before 11",
+    PairApartMasterReset Both "pair: 11 for MRS alone",
+    PairApartPartialReset Both "pair: 11 for PRS alone",
+    PairApartWriteClock Both "pair: 11 for WCLK alone",
+    PairApartReadClock Both "pair: 11 for RCLK alone",
+    PairApartWriteEnable Both "pair: 11 for WEN alone",
+    PairApartReadEnable Both "pair: 11 for REN alone",
+    PairApartLoad Both "pair: 11 for LD alone",
+    PairApartSerialEnable Both "pair: 11 for SEN alone",
+    PairApartRetransmit Both "pair: 11 for RT alone",
+    PairApartModeOrBit Both "pair: 11 for FWFT/SI alone",
+    PairApartOutputEnable Both "pair: 11 for OE alone",
+    PairApartInReset Both "pair: 11 in a reset",
+    PairApartUnstarted Anywhere "pair: 11 before 5",
+    PairApartFirst Both "pair: 11 before a part's own number",
+    PairFive Anywhere "pair: 5",
+    PairSix Both "pair: 6",
+    PairSeven Both "pair: 7",
+    PairEight Both "pair: 8",
+    PairNine Both "pair: 9",
+    PairTenLeft Both "pair: 10 by the left part alone",
+    PairTenRight Both "pair: 10 by the right part alone",
+    PairTenBoth Both "pair: 10 by both parts",
+    PairFullLeft Both "pair: FF/IR HIGH on the left alone",
+    PairFullRight Both "pair: FF/IR HIGH on the right alone",
+    PairEmptyLeft Both "pair: EF/OR HIGH on the left alone",
+    PairEmptyRight Both "pair: EF/OR HIGH on the right alone",
+    PairModeChanged Both "pair: flags apart after a reset to the other mode",
+    PairModeKept Both "pair: flags apart after such a reset was refused",
+    PairAcceptedLeft Both "pair: more words accepted on the left",
+    PairAcceptedRight Both "pair: more words accepted on the right",
+    PairTakenLeft Both "pair: more words taken on the left",
+    PairTakenRight Both "pair: more words taken on the right",
+    PairDataApart Both "pair: two words accepted in one sample",
+    PairWriteMarkApart Both "pair: write skew met on one side alone",
+    PairReadMarkApart Both "pair: read skew met on one side alone",
+    PairWriteWithheld Both "pair: write withheld, though one half shows room",
+    PairReadWithheld Both "pair: read withheld, though one half has a word ready",
+    PairLeftOverOne Anywhere "pair: 1 byte left over",
+    PairLeftOverTwo Anywhere "pair: 2 bytes left over",
+    PairLeftOverThree Anywhere "pair: 3 bytes left over",
+    PairLeftOverFour Anywhere "pair: 4 bytes left over",
+    PairLeftOverFive Anywhere "pair: 5 bytes left over",
+    PairLeftOverSix Anywhere "pair: 6 bytes left over",
+    PairLeftOverSeven Anywhere "pair: 7 bytes left over",
+    PairStopFour Anywhere "pair: strict run ended by 4",
+    PairStopFive Anywhere "pair: strict run ended by 5",
+    PairStopSix Anywhere "pair: strict run ended by 6",
+    PairStopSeven Anywhere "pair: strict run ended by 7",
+    PairStopEight Anywhere "pair: strict run ended by 8",
+    PairStopNine Anywhere "pair: strict run ended by 9",
+    PairStopTen Anywhere "pair: strict run ended by 10",
+    PairStopEleven Anywhere "pair: strict run ended by 11",
+    PairStrictWhole Anywhere "pair: strict run to the end",
+    PairLenientRun Anywhere "pair: lenient run",
+    PairUnknownPart Anywhere "pair: unknown part",
+    PairNoPart Anywhere "pair: input under two bytes",
+    PairNoSamples Anywhere "pair: no samples",
 }
 
 const COLUMNS: usize = 4;
@@ -151,6 +212,7 @@ const COLUMNS: usize = 4;
 pub struct Corners {
     counts: Vec<[u64; COLUMNS]>,
     pub samples: u64,
+    pub pair_samples: u64,
     /// The last sample was a refused one in which a clock would have risen.
     pub refused_rise: bool,
     /// The last WCLK rise was the one at which a retransmit was seen.
@@ -175,7 +237,8 @@ impl Scope {
 
 impl Default for Corners {
     fn default() -> Corners {
-        Corners { counts: vec![[0; COLUMNS]; LIST.len()], samples: 0, refused_rise: false, just_seen: false }
+        let counts = vec![[0; COLUMNS]; LIST.len()];
+        Corners { counts, samples: 0, pair_samples: 0, refused_rise: false, just_seen: false }
     }
 }
 
@@ -191,6 +254,7 @@ impl Corners {
 
     pub fn add(&mut self, others: &Corners) {
         self.samples += others.samples;
+        self.pair_samples += others.pair_samples;
         for (counts, theirs) in self.counts.iter_mut().zip(&others.counts) {
             for (count, more) in counts.iter_mut().zip(theirs) {
                 *count += more;

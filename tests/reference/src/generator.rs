@@ -34,15 +34,19 @@ impl Generator {
     }
 
     pub fn next(&mut self, model: &Model) -> u32 {
-        let pins = if !model.started() {
+        self.propose(model, |pins| refusal(model, pins).is_none()).record()
+    }
+
+    /// A sample that is legal, where none is meant to be refused.
+    pub fn propose(&mut self, model: &Model, legal: impl Fn(Pins) -> bool) -> Pins {
+        if !model.started() {
             self.first(model)
         } else if self.plan.spoiled > 0 {
             self.proposal(model)
         } else {
-            let legal = (0..8).map(|_| self.proposal(model)).find(|&pins| refusal(model, pins).is_none());
-            legal.unwrap_or_else(|| calm(model))
-        };
-        pins.record()
+            let proposed = (0..8).map(|_| self.proposal(model)).find(|&pins| legal(pins));
+            proposed.unwrap_or_else(|| calm(model))
+        }
     }
 
     /// Nothing but a Master Reset is taken at first.

@@ -1,10 +1,10 @@
 //! A second model of the FIFOs, which shares neither code nor shape with the proved one: the counts have no width, no
 //! stage is carried, and whatever a side sees is looked up in the history of rises since the reset.
 //!
-//! The model: `part`, `pins`, `history`, `offsets`, `refusals`, `model`. What it is tried on: `random`, `scenes`,
-//! `steering`, `generator`, `plans`, `trace`; and what of that has been come through: `corners`, `watch`. The others that
-//! it is compared with: `program`, `library`, `hostile`, `compare`, `shrink`. And `handed`, for states that no history
-//! leads to: a small model on the state's own fields, which `runs` is held to.
+//! The model: `part`, `pins`, `history`, `offsets`, `refusals`, `model`, and two of it side by side, `pair`. What it is
+//! tried on: `random`, `scenes`, `steering`, `generator`, `plans`, `trace`; and what of that has been come through:
+//! `corners`, `watch`. The others that it is compared with: `program`, `library`, `hostile`, `compare`, `shrink`. And
+//! `handed`, for states that no history leads to: a small model on the state's own fields, which `runs` is held to.
 
 pub mod compare;
 pub mod corners;
@@ -15,6 +15,7 @@ pub mod hostile;
 pub mod library;
 pub mod model;
 pub mod offsets;
+pub mod pair;
 pub mod part;
 pub mod pins;
 pub mod plans;

@@ -1,5 +1,6 @@
-//! Tries the built libraries and the trace program against the reference: reference SEED AMOUNT NATIVE TRACE DRIVER RUN-DRIVER.
-//! A counterexample is also left next to the driver, as an input of the trace program.
+//! Tries the built libraries and the trace programs against the reference:
+//! reference SEED AMOUNT NATIVE TRACE TRACE-PAIR DRIVER RUN-DRIVER.
+//! A counterexample is also left next to the driver, as an input of its trace program.
 
 use std::env;
 use std::fs;
@@ -22,6 +23,7 @@ struct Settings {
     seed: u64,
     amount: usize,
     trace: Launch,
+    trace_pair: Launch,
     driver: Launch,
     run_driver: Launch,
 }
@@ -35,18 +37,19 @@ struct Finding {
 
 fn settings() -> Option<Settings> {
     let arguments: Vec<String> = env::args().skip(1).collect();
-    let [seed, amount, native, trace, driver, run_driver] = arguments.as_slice() else {
+    let [seed, amount, native, programs @ ..] = arguments.as_slice() else {
         return None;
     };
     let launch = |program: &String| Launch { native: native.clone(), program: program.clone() };
-    let (seed, amount) = (seed.parse().ok()?, amount.parse().ok()?);
-    Some(Settings { seed, amount, trace: launch(trace), driver: launch(driver), run_driver: launch(run_driver) })
+    let programs: Vec<Launch> = programs.iter().map(launch).collect();
+    let [trace, trace_pair, driver, run_driver] = programs.try_into().ok()?;
+    Some(Settings { seed: seed.parse().ok()?, amount: amount.parse().ok()?, trace, trace_pair, driver, run_driver })
 }
 
 fn try_library(settings: &Settings, seed: u64) -> (Finding, Tally) {
     let mut library = Library::new(settings.driver.clone());
     let mut finding = Finding::default();
-    let amount = Amount { wide: 1, long: 2 * settings.amount, short: 100 * settings.amount };
+    let amount = Amount { wide: 1, long: 2 * settings.amount, full: 0, short: 100 * settings.amount };
     finding.wrong = compare::library(&mut library, amount, seed, &mut finding.corners);
     let mut tally = Tally::default();
     if finding.wrong.is_none() {
@@ -85,8 +88,15 @@ fn try_runs(settings: &Settings, seed: u64) -> (Finding, u64) {
 
 fn try_program(settings: &Settings, seed: u64) -> Finding {
     let mut finding = Finding::default();
-    let amount = Amount { wide: 1, long: settings.amount, short: 14 * settings.amount };
+    let amount = Amount { wide: 1, long: settings.amount, full: 0, short: 14 * settings.amount };
     finding.wrong = compare::program(&settings.trace, amount, seed, &mut finding.corners);
+    finding
+}
+
+fn try_pair(settings: &Settings, seed: u64) -> Finding {
+    let mut finding = Finding::default();
+    let amount = Amount { wide: 0, long: 0, full: settings.amount.div_ceil(3), short: 4 * settings.amount };
+    finding.wrong = compare::pair(&settings.trace_pair, amount, seed, &mut finding.corners);
     finding
 }
 
@@ -106,16 +116,17 @@ impl Tried {
     }
 }
 
-fn try_all(settings: &Settings) -> ([Finding; 4], Tried) {
+fn try_all(settings: &Settings) -> ([Finding; 5], Tried) {
     let mut random = Random::new(settings.seed);
-    let [library_seed, program_seed, handed_seed, runs_seed] = [(); 4].map(|()| random.draw());
+    let [library_seed, program_seed, handed_seed, runs_seed, pair_seed] = [(); 5].map(|()| random.draw());
     thread::scope(|scope| {
         let library = scope.spawn(|| try_library(settings, library_seed));
         let program = try_program(settings, program_seed);
+        let pair = try_pair(settings, pair_seed);
         let (by_handed, handed) = try_handed(settings, handed_seed);
         let (by_runs, runs) = try_runs(settings, runs_seed);
         let (by_library, hostile) = library.join().expect("the comparison with the library ends");
-        ([by_library, program, by_handed, by_runs], Tried { hostile, handed, runs })
+        ([by_library, program, pair, by_handed, by_runs], Tried { hostile, handed, runs })
     })
 }
 
@@ -125,6 +136,7 @@ fn report(corners: &Corners, tried: &Tried, wrong: &[Counterexample], seconds: u
     println!("hostile calls by number: {:?}", hostile.numbers);
     println!("damaged states: {} pass 3, {} do not", hostile.spelled, hostile.unspelled);
     println!("calls on states never reached, by number: {:?}", tried.handed);
+    println!("pair: {} samples", corners.pair_samples);
     for counterexample in wrong {
         println!("DIFFERENCE {}", counterexample.words);
     }
@@ -137,7 +149,7 @@ fn report(corners: &Corners, tried: &Tried, wrong: &[Counterexample], seconds: u
 
 fn main() -> ExitCode {
     let Some(settings) = settings() else {
-        eprintln!("usage: reference SEED AMOUNT NATIVE TRACE DRIVER RUN-DRIVER");
+        eprintln!("usage: reference SEED AMOUNT NATIVE TRACE TRACE-PAIR DRIVER RUN-DRIVER");
         return ExitCode::FAILURE;
     };
     let start = Instant::now();
@@ -153,7 +165,7 @@ fn main() -> ExitCode {
     let passed = report(&corners, &tried, &wrong, start.elapsed().as_secs());
     if let Some(counterexample) = wrong.iter().find(|counterexample| !counterexample.input.is_empty()) {
         fs::write(&left, &counterexample.input).expect("the counterexample can be left");
-        println!("the counterexample, as an input of the trace program: {}", left.display());
+        println!("the counterexample, as an input of its trace program: {}", left.display());
     }
     match passed {
         true => ExitCode::SUCCESS,

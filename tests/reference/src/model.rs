@@ -58,9 +58,14 @@ impl Model {
 
     pub fn sample(&mut self, record: u32, memory: &mut [u32]) -> Outcome {
         let pins = Pins::of(record);
-        if let Some(number) = refusal(self, pins) {
-            return Outcome::Refused(number);
+        match refusal(self, pins) {
+            Some(number) => Outcome::Refused(number),
+            None => Outcome::Taken(self.take(pins, memory)),
         }
+    }
+
+    /// The answer to a sample that nothing turns away.
+    pub fn take(&mut self, pins: Pins, memory: &mut [u32]) -> u32 {
         self.accepted_samples += 1;
         if pins.in_reset() {
             self.reset(pins);
@@ -68,7 +73,7 @@ impl Model {
             self.run_clocks(pins, memory);
         }
         (self.wclk, self.rclk) = (pins.wclk, pins.rclk);
-        Outcome::Taken(self.answer(pins))
+        self.answer(pins)
     }
 
     pub fn started(&self) -> bool {

@@ -3,6 +3,9 @@
 const SPARE: u32 = 1 << 18;
 pub const WORD: u32 = SPARE - 1;
 
+/// The lowest bit of a pin that the two records of a pair have alike: above the skew marks, bit 18 and D.
+pub const SHARED_FROM: u32 = 21;
+
 /// Levels of the pins in one sample, true for HIGH.
 #[derive(Clone, Copy, PartialEq, Eq, Debug)]
 pub struct Pins {
@@ -68,6 +71,11 @@ impl Pins {
     /// The flags in their order, whether Q is driven, and what it shows.
     pub fn answer(self, flags: [bool; 5], shown: u32) -> u32 {
         joined(&flags) << 19 | if self.oe { 0 } else { 1 << 18 | shown }
+    }
+
+    /// Without what may differ between the two records of a pair.
+    pub fn shared(self) -> Pins {
+        Pins { write_skew_met: true, read_skew_met: true, spare: false, data: 0, ..self }
     }
 
     pub fn in_reset(self) -> bool {

@@ -20,6 +20,7 @@ pub struct Job {
 pub struct Amount {
     pub wide: usize,
     pub long: usize,
+    pub full: usize,
     pub short: usize,
 }
 
@@ -30,12 +31,13 @@ fn each_part_and_mode() -> impl Iterator<Item = (Part, Mode)> {
     PARTS.into_iter().flat_map(|part| [(part, Mode::Standard), (part, Mode::FallThrough)])
 }
 
-/// In each part and mode: short traces, traces that fill the part, and traces that pass the width of the counts. The short
-/// ones come first, so that a difference is found in a short one if it can be.
+/// In each part and mode: short traces, traces that fill the part and some that go on from there, and traces that pass the
+/// width of the counts. The short ones come first, so that a difference is found in a short one if it can be.
 pub fn jobs(amount: Amount, random: &mut Random) -> Vec<Job> {
     let mut jobs = Vec::new();
     for (part, mode) in each_part_and_mode() {
         jobs.extend((0..amount.short).map(|index| short(part, mode, spoiled(index, random), random)));
+        jobs.extend((0..amount.full).map(|index| full(part, mode, spoiled(index, random))));
         jobs.extend((0..amount.long).map(|index| long(part, mode, index, spoiled(index, random))));
         jobs.extend((0..amount.wide).map(|_| wide(part, mode)));
     }
@@ -62,6 +64,12 @@ fn long(part: Part, mode: Mode, index: usize, spoiled: u64) -> Job {
     let (full, half) = (Scene::Hover { held: part.depth }, Scene::Hover { held: part.depth / 2 });
     let first = [full, Scene::Verge { written }, half, Scene::Verge { written }][index % 4];
     Job { part, plan: Plan { mode, spoiled, far: true, first }, records: 5 * part.depth as usize }
+}
+
+/// Not much longer than it takes to fill the part.
+fn full(part: Part, mode: Mode, spoiled: u64) -> Job {
+    let plan = Plan { mode, spoiled, far: true, first: Scene::Hover { held: part.depth } };
+    Job { part, plan, records: 3 * part.depth as usize + 3_000 }
 }
 
 fn short(part: Part, mode: Mode, spoiled: u64, random: &mut Random) -> Job {

@@ -1,4 +1,4 @@
-//! The trace program from outside: whole inputs in, lines out.
+//! A trace program from outside: whole inputs in, lines out.
 
 use std::fmt::Write as _;
 use std::io::{Read, Write};
@@ -44,60 +44,113 @@ pub fn printed(launch: &Launch, input: &[u8], lenient: bool) -> String {
     lines
 }
 
+/// What a trace program runs, by the reference.
+pub trait Traced {
+    /// The bytes of a sample.
+    const BYTES: usize;
+    const ENDS: Ends;
+    fn power_up(part: Part) -> Self;
+    /// What the line of a sample says after its index, or the number under which the sample is refused.
+    fn line(&mut self, sample: &[u8], corners: &mut Corners) -> Result<String, u32>;
+}
+
+/// The corners of how a trace begins and ends.
+pub struct Ends {
+    pub no_part: Corner,
+    pub unknown_part: Corner,
+    pub no_samples: Corner,
+    pub lenient: Corner,
+    pub whole: Corner,
+    /// By the number that ended a strict run.
+    pub stops: &'static [(u32, Corner)],
+    /// By the number of bytes, from one on.
+    pub left_over: &'static [Corner],
+}
+
 fn part_of(input: &[u8]) -> Option<Part> {
     let number = u16::from_be_bytes(input.get(..2)?.try_into().ok()?);
     PARTS.into_iter().find(|part| part.number == number)
 }
 
 /// The lines that "Bench figures" asks for, by the reference.
-pub fn expected(input: &[u8], lenient: bool, corners: &mut Corners) -> String {
+pub fn expected<T: Traced>(input: &[u8], lenient: bool, corners: &mut Corners) -> String {
     let Some(part) = part_of(input) else {
-        corners.note_input(if input.len() < 2 { Corner::NoPart } else { Corner::UnknownPart });
+        corners.note_input(if input.len() < 2 { T::ENDS.no_part } else { T::ENDS.unknown_part });
         return "end 0 1\n".to_string();
     };
-    let records = input[2..].chunks_exact(4);
-    let left_over = !records.remainder().is_empty();
-    let mut model = Model::power_up(part);
-    let mut memory = vec![0; part.depth as usize];
+    let samples = input[2..].chunks_exact(T::BYTES);
+    let left_over = samples.remainder().len();
+    let mut traced = T::power_up(part);
     let (mut lines, mut taken, mut end) = (String::new(), 0, 0);
-    for (index, bytes) in records.clone().enumerate() {
-        let record = u32::from_be_bytes(bytes.try_into().expect("four bytes"));
-        match corners.watch(&mut model, record, &mut memory) {
-            Outcome::Taken(answer) => {
-                writeln!(lines, "{index} {answer:06X}").expect("a string takes all");
+    for (index, sample) in samples.clone().enumerate() {
+        match traced.line(sample, corners) {
+            Ok(line) => {
+                writeln!(lines, "{index} {line}").expect("a string takes all");
                 taken += 1;
             }
-            Outcome::Refused(number) if lenient => {
+            Err(number) if lenient => {
                 writeln!(lines, "{index} refused {number}").expect("a string takes all");
             }
-            Outcome::Refused(number) => {
+            Err(number) => {
                 end = number;
                 break;
             }
         }
     }
-    if end == 0 && left_over {
-        corners.note_input(Corner::LeftOver);
+    if end == 0 && left_over > 0 {
+        corners.note_input(T::ENDS.left_over[left_over - 1]);
         end = 4;
     }
-    note_end(lenient, end, records.len(), corners);
+    T::ENDS.note(lenient, end, samples.len(), corners);
     writeln!(lines, "end {taken} {end}").expect("a string takes all");
     lines
 }
 
-fn note_end(lenient: bool, end: u32, records: usize, corners: &mut Corners) {
-    if records == 0 {
-        corners.note_input(Corner::NoRecords);
+impl Ends {
+    fn note(&self, lenient: bool, end: u32, samples: usize, corners: &mut Corners) {
+        if samples == 0 {
+            corners.note_input(self.no_samples);
+        }
+        let stop = self.stops.iter().find(|&&(number, _)| number == end).map(|&(_, corner)| corner);
+        corners.note_input(if lenient { self.lenient } else { stop.unwrap_or(self.whole) });
     }
-    corners.note_input(match end {
-        _ if lenient => Corner::LenientRun,
-        0 => Corner::StrictWhole,
-        4 => Corner::StrictStopFour,
-        5 => Corner::StrictStopFive,
-        6 => Corner::StrictStopSix,
-        7 => Corner::StrictStopSeven,
-        8 => Corner::StrictStopEight,
-        9 => Corner::StrictStopNine,
-        _ => Corner::StrictStopTen,
-    });
+}
+
+/// One part and its memory.
+pub struct Single {
+    model: Model,
+    memory: Vec<u32>,
+}
+
+impl Traced for Single {
+    const BYTES: usize = 4;
+    const ENDS: Ends = Ends {
+        no_part: Corner::NoPart,
+        unknown_part: Corner::UnknownPart,
+        no_samples: Corner::NoRecords,
+        lenient: Corner::LenientRun,
+        whole: Corner::StrictWhole,
+        stops: &[
+            (4, Corner::StrictStopFour),
+            (5, Corner::StrictStopFive),
+            (6, Corner::StrictStopSix),
+            (7, Corner::StrictStopSeven),
+            (8, Corner::StrictStopEight),
+            (9, Corner::StrictStopNine),
+            (10, Corner::StrictStopTen),
+        ],
+        left_over: &[Corner::LeftOver; 3],
+    };
+
+    fn power_up(part: Part) -> Single {
+        Single { model: Model::power_up(part), memory: vec![0; part.depth as usize] }
+    }
+
+    fn line(&mut self, sample: &[u8], corners: &mut Corners) -> Result<String, u32> {
+        let record = u32::from_be_bytes(sample.try_into().expect("four bytes"));
+        match corners.watch(&mut self.model, record, &mut self.memory) {
+            Outcome::Taken(answer) => Ok(format!("{answer:06X}")),
+            Outcome::Refused(number) => Err(number),
+        }
+    }
 }

@@ -15,6 +15,7 @@ pub fn spoil(number: u32, pins: &mut Pins, model: &Model, random: &mut Random) {
     pins.prs = number != 4 || !random.one_in(8);
     match number {
         4 => pins.spare = true,
+        5 => (),
         6 => {
             let kept = random.below(4);
             (pins.ld, pins.wen, pins.ren, pins.sen) = (false, kept == 0, kept == 1, kept == 2);
