@@ -1,39 +1,31 @@
 -- Two parts of one kind side by side, each with an onlooker of its own: what their user keeps to, and what it is that they are not apart.
--- A sample is two records, the left part's and the right part's.
-use Prim.Native.Nat.{ℕ, _/_, _^_}
+use Prim.Native.Nat.{ℕ}
 use mathlib.Core.Bool.{true}
-use mathlib.Core.List.{List, [], _∷_}
 use mathlib.Core.Path.{_≡_}
 use lib.ListN.{length}
 use Rattle.counts.specs.declared.part.Part.{Part}
 use Rattle.pins.specs.Record.{pinsOf}
-use Rattle.pair.specs.Two.{Two}
-use Rattle.history.specs.Asked.{ShowsRoom, ShowsWord, takenNext}
+use Rattle.halves.specs.Refuse.{samePins}
+use Rattle.halves.specs.Two.{Two}
+use Rattle.history.specs.Asked.{ShowsRoom, ShowsWord}
 use Rattle.history.specs.Onlooker.{Notes, asksRead, asksWrite}
-use Rattle.history.specs.Trace.{Moment, next, takes}
+use Rattle.history.specs.Trace.{Moment, takes}
 
 abbrev pub Records : Type 0
 Records = Two ℕ
 
--- two records that are equal in every pin but D and the skew marks: in bits 31 to 21
-abbrev pub SamePins : ℕ → ℕ → Type 0
-SamePins x y = x / 2 ^ 21 ≡ y / 2 ^ 21
-
 module _ (part : Part) (left right : Moment) (s : Records) where
-  -- the sample is taken by both or by neither, and where it is taken its records have the same pins
-  pub record Together : Type 0 where
-    pub verdict : takes part left (s .left) ≡ takes part right (s .right)
-    pub same : takes part left (s .left) ≡ true → SamePins (s .left) (s .right)
+  -- each part takes its record, and they have the same pins
+  abbrev pub TakenSame : Type 0
+  TakenSame = (takes part left (s .left) ≡ true) × (takes part right (s .right) ≡ true) × (samePins (s .left) (s .right) ≡ true)
 
   -- a write is asked only while both show room; levels and pins being the same, what one is asked both are
   abbrev pub RoomHeeded : Type 0
-  RoomHeeded =
-      takes part left (s .left) ≡ true → asksWrite (left .notes) (pinsOf (s .left)) ≡ true → ShowsRoom part left × ShowsRoom part right
+  RoomHeeded = asksWrite (left .notes) (pinsOf (s .left)) ≡ true → ShowsRoom part left × ShowsRoom part right
 
   -- and a read only while both show a word ready
   abbrev pub WordHeeded : Type 0
-  WordHeeded =
-      takes part left (s .left) ≡ true → asksRead (left .notes) (pinsOf (s .left)) ≡ true → ShowsWord part left × ShowsWord part right
+  WordHeeded = asksRead (left .notes) (pinsOf (s .left)) ≡ true → ShowsWord part left × ShowsWord part right
 
 -- what two onlookers have of two parts that are not apart: as many words accepted since the last reset, as many taken, and with
 -- that the clocks' levels and the mode
@@ -43,16 +35,3 @@ pub record Abreast (left : Notes) (leftTaken : ℕ) (right : Notes) (rightTaken 
   pub wclk : left .wclk ≡ right .wclk
   pub rclk : left .rclk ≡ right .rclk
   pub fwft : left .fwft ≡ right .fwft
-
-module _ (part : Part) where
-  -- something is so of each sample of a trace and the two moments before it
-  abbrev pub Each : (Moment → Moment → Records → Type 0) → Moment → Moment → List Records → Type 0
-  Each Is left right [] = Unit {0}
-  Each Is left right (s ∷ samples) = Is left right s × Each Is (next part left (s .left)) (next part right (s .right)) samples
-
-  -- abreast at the start and after each sample
-  abbrev pub NeverApart : Moment → ℕ → Moment → ℕ → List Records → Type 0
-  NeverApart left leftTaken right rightTaken [] = Abreast (left .notes) leftTaken (right .notes) rightTaken
-  NeverApart left leftTaken right rightTaken (s ∷ samples) =
-      Abreast (left .notes) leftTaken (right .notes) rightTaken
-      × NeverApart (next part left (s .left)) (takenNext part left (s .left) leftTaken) (next part right (s .right)) (takenNext part right (s .right) rightTaken) samples

@@ -1,4 +1,4 @@
--- A sample taken by both parts, or by neither, leaves them abreast.
+-- A sample that both parts take leaves them abreast.
 use Prim.Native.Nat.{ℕ, _+_}
 use mathlib.Core.Bool.{Bool, true, false, not, cond, _&&_}
 use mathlib.Core.List.{List, [], _∷_, _++_}
@@ -10,11 +10,11 @@ use Rattle.pins.specs.declared.record.Skew.{Skew}
 use Rattle.pins.specs.Record.{pinsOf}
 use Rattle.history.specs.Asked.{readsWord, takenNext}
 use Rattle.history.specs.Onlooker.{Notes, Shown, accepts, asksRead, asksWrite, full, noted, outside, reads, ready, wentOn}
-use Rattle.history.specs.TakenLaws.{notes-refused, notes-taken}
-use Rattle.history.specs.Trace.{Moment, next, shownBy, takes}
+use Rattle.history.specs.TakenLaws.{notes-taken}
+use Rattle.history.specs.Trace.{Moment, next, shownBy}
 use Rattle.history.specs.WordLaws.{length-after}
-use Rattle.abreast.specs.Abreast.{Abreast, Records, RoomHeeded, Together, WordHeeded}
-use Rattle.abreast.specs.PinLaws.{same-pins, withOwn}
+use Rattle.abreast.specs.Abreast.{Abreast, Records, RoomHeeded, TakenSame, WordHeeded}
+use Rattle.halves.specs.RefuseLaws.{same-pins, withOwn}
 
 -- what is asked happens in both where both flags allow it, and what is not asked in neither
 alike-where : (asked one two : Bool) → (asked ≡ true → one ≡ two) → asked && one ≡ asked && two
@@ -76,24 +76,12 @@ module _ (part : Part) (left right : Moment) (n k : ℕ) (like : Abreast (left .
   Stays =
       Abreast (next part left (s .left) .notes) (takenNext part left (s .left) n) (next part right (s .right) .notes) (takenNext part right (s .right) k)
 
-  abreast-refused : takes part left (s .left) ≡ false → takes part right (s .right) ≡ false → Stays
+  pub abreast-next : TakenSame part left right s → RoomHeeded part left right s → WordHeeded part left right s → Stays
   unfolding takenNext readsWord
-  abreast-refused e f = rw (notes-refused part left (s .left) e, notes-refused part right (s .right) f, e, f) like
-
-  module _ (together : Together part left right s) (room : RoomHeeded part left right s) (word : WordHeeded part left right s) where
-    abreast-taken : takes part left (s .left) ≡ true → takes part right (s .right) ≡ true → Stays
-    unfolding takenNext readsWord
-    abreast-taken e f =
-        let x = s .left in
-        let y = s .right in
-        rw (notes-taken part left x e, notes-taken part right y f, e, f)
-        (subst (λ (pins : Pins). AbreastBy (left .notes) (right .notes) n k (pinsOf x) pins (shownBy part (left .state)) (shownBy part (right .state))
-        (shownBy part (next part left x .state)) (shownBy part (next part right y .state))) (sym (same-pins x y (together .same e)))
-        (abreast-noted (left .notes) (right .notes) n k like (pinsOf x) (pinsOf y .skew) (pinsOf y .d) _ _ _ _ (room e) (word e)))
-
-    by-verdict : (verdict : Bool) → takes part left (s .left) ≡ verdict → Stays
-    by-verdict true e = abreast-taken e (sym (together .verdict) ∙ e)
-    by-verdict false e = abreast-refused e (sym (together .verdict) ∙ e)
-
-    pub abreast-next : Stays
-    abreast-next = by-verdict (takes part left (s .left)) refl
+  abreast-next taken room word =
+      let x = s .left in
+      let y = s .right in
+      rw (notes-taken part left x (taken .0), notes-taken part right y (taken .1), taken .0, taken .1)
+      (subst (λ (pins : Pins). AbreastBy (left .notes) (right .notes) n k (pinsOf x) pins (shownBy part (left .state)) (shownBy part (right .state))
+      (shownBy part (next part left x .state)) (shownBy part (next part right y .state))) (sym (same-pins x y (taken .2)))
+      (abreast-noted (left .notes) (right .notes) n k like (pinsOf x) (pinsOf y .skew) (pinsOf y .d) _ _ _ _ room word))

@@ -12,7 +12,7 @@ use Rattle.fifo.specs.declared.sample.Outcome.the-variants as fifo
 use Rattle.notes.specs.Fold.{started}
 use Rattle.pair.specs.declared.sample.Outcome.the-variants.{Taken}
 use Rattle.pair.specs.Sample as pair
-use Rattle.pair.specs.Two.{Two}
+use Rattle.halves.specs.Two.{Two}
 use Rattle.pair_runs.specs.Run.{Ended, runOf}
 use Rattle.pair_runs.specs.Samples.{samplesFrom, wholeSamples}
 use Rattle.pins.specs.Record.{pinsOf}

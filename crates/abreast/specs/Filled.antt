@@ -25,7 +25,7 @@ use Rattle.views.specs.declared.stages.WriteRise.{WriteRise}
 use Rattle.views.specs.declared.stages.WriteRise.the-variants as writeRise
 use Rattle.views.specs.Flags.{pafLow}
 use Rattle.views.specs.TrueCounts.{TrueCounts, noCounts}
-use Rattle.pair.specs.Two.{two}
+use Rattle.halves.specs.Two.{two}
 use Rattle.history.specs.Asked.{readsWord, takenNext}
 use Rattle.history.specs.LedLaws.{countsLed, countsNext, told-after, told-next}
 use Rattle.history.specs.Onlooker.{full, reads}

@@ -3,15 +3,12 @@ use Prim.Native.Nat.{ℕ}
 use mathlib.Core.Bool.{true, false}
 use mathlib.Core.List.{List, [], _∷_}
 use mathlib.Core.Path.{_≡_, refl, _∙_}
-use native.Mathlib.Omega.{arith}
-use Rattle.counts.specs.declared.part.Part.the-variants.{Idt72V255LA as part255}
-use Rattle.pair.specs.Two.{two}
+use Rattle.halves.specs.Two.{two}
 use Rattle.history.specs.Asked.{readsWord, takenNext}
-use Rattle.history.specs.Tight.{tried, zeros}
-use Rattle.history.specs.Trace.{powerUp}
-use Rattle.abreast.specs.Abreast.{Each, NeverApart, Records, Together, WordHeeded}
+use Rattle.history.specs.Tight.{tried}
+use Rattle.abreast.specs.Abreast.{Records}
 use Rattle.abreast.specs.Filled.{filledThen, seen-filled}
-use Rattle.abreast.specs.Seen.{equal-told, heeded-told, seen, seenFrom}
+use Rattle.abreast.specs.Seen.{seen, seenFrom}
 
 -- two parts that are full: two rises of RCLK, a read, and two rises of WCLK, the first of which meets the skew at the left part only; then
 -- a write by FF
@@ -37,13 +34,3 @@ pub apart-by-ir : seen (filledThen true writeByIr)
     ≡ record { together = true; room = false; word = true; leftRoom = true; leftWord = true; accepted = (8193, 8192); taken = (0, 0) }
 unfolding tried seenFrom takenNext readsWord writeByIr
 apart-by-ir = seen-filled true writeByIr ∙ refl
-
--- so without heeding both parts' FF or IR they can come apart
-pub room-needed : ((memory other : List ℕ) (samples : List Records) → let left = powerUp memory in let right = powerUp other in
-    Each part255 (Together part255) left right samples → Each part255 (WordHeeded part255) left right samples → NeverApart part255 left 0 right 0 samples) → ⊥
-room-needed never =
-    let start = powerUp zeros in
-    let samples = filledThen false writeByFf in
-    let heeded = heeded-told part255 samples start start 0 0 in
-    let apart = equal-told part255 samples start start 0 0 (never zeros zeros samples (heeded .0 (rw apart-by-ff refl)) (heeded .2 (rw apart-by-ff refl))) .0 in
-    absurd (omega (arith, rw apart-by-ff at apart))

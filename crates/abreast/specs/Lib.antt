@@ -1,14 +1,13 @@
 pub mod Abreast
 pub mod Pairing
-pub mod PinLaws
 pub mod PairingLaws
 pub mod RunLaws
 pub mod EachHalf
 pub mod AbreastLaws
 pub mod AwaitedLaws
-pub mod Awaited
 pub mod NeverApart
 pub mod Seen
 pub mod Examples
 pub mod Filled
 pub mod FullExamples
+pub mod Needed

@@ -7,13 +7,13 @@ use mathlib.Core.Path.{_≡_}
 use Rattle.chip.specs.Reset.{selectedMode}
 use Rattle.counts.specs.declared.part.Part.{Part}
 use Rattle.counts.specs.Part.{numberOf}
-use Rattle.pair.specs.declared.composite.Composite.{Composite}
+use Rattle.halves.specs.declared.composite.Composite.{Composite}
 use Rattle.pair.specs.declared.sample.Outcome.{Outcome}
 use Rattle.pair.specs.declared.sample.Outcome.the-variants.{Taken, Refused}
-use Rattle.pair.specs.declared.state.Halves.{Halves}
-use Rattle.pair.specs.Composite.{compositeOf}
+use Rattle.halves.specs.declared.state.Halves.{Halves}
+use Rattle.halves.specs.Composite.{compositeOf}
 use Rattle.pair.specs.Sample.{After, isTaken, pairSampled}
-use Rattle.pair.specs.Two.{Two, two}
+use Rattle.halves.specs.Two.{Two, two}
 use Rattle.pins.specs.Record.{pinsOf}
 use Rattle.history.specs.Asked.{takenNext}
 use Rattle.history.specs.Onlooker.{asksRead, asksWrite, noted, tellsFull, tellsReady}

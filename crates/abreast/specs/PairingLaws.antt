@@ -5,7 +5,7 @@ use mathlib.Core.List.{List, [], _∷_}
 use mathlib.Core.Logic.{_≢_}
 use mathlib.Core.Path.{_≡_, refl, sym, ap, subst, _∙_}
 use lib.ListN.{length}
-use borrow.Author.Tests.{eq-eqb, eqb-true}
+use borrow.Author.Tests.{eq-eqb}
 use native.Mathlib.Omega.{arith}
 use lib.Dec.{eqb}
 use Rattle.chip.specs.ResetLaws.{isFwft}
@@ -17,13 +17,13 @@ use Rattle.fifo.specs.Sample as single
 use Rattle.fifo.specs.Sample.{isDepth, recordRefusal}
 use Rattle.pair.specs.declared.sample.Outcome.{Outcome}
 use Rattle.pair.specs.declared.sample.Outcome.the-variants.{Taken, Refused}
-use Rattle.pair.specs.declared.state.Halves.{Halves}
-use Rattle.pair.specs.Refuse.{pairRefusal, samePins}
+use Rattle.halves.specs.declared.state.Halves.{Halves}
+use Rattle.halves.specs.Refuse.{pairRefusal, samePins}
 use Rattle.pair.specs.Sample.{After, both, isTaken, numberOf, pairStepped, turnedAway}
 use Rattle.pair.specs.SampleLaws.{free-both, refused-still, sample-is-step, step-numbered, taken-both}
-use Rattle.pair.specs.State.{passesBoth}
-use Rattle.pair.specs.StateLaws.{same-alike}
-use Rattle.pair.specs.Two.{Two, two}
+use Rattle.halves.specs.State.{passesBoth}
+use Rattle.halves.specs.StateLaws.{alike-itself}
+use Rattle.halves.specs.Two.{Two, two}
 use Rattle.pins.specs.Record.{pinsOf}
 use Rattle.refusals.specs.ReachLaws.{reached-passes}
 use Rattle.views.specs.TrueCounts.{TrueCounts, noCounts}
@@ -32,9 +32,9 @@ use Rattle.history.specs.Onlooker.{Notes, noted, wentOn}
 use Rattle.history.specs.TakenLaws.{notes-taken}
 use Rattle.history.specs.Told.{Told}
 use Rattle.history.specs.Trace.{Moment, led, next, outcome, powerUp, takes}
-use Rattle.abreast.specs.Abreast.{Records, SamePins}
+use Rattle.abreast.specs.Abreast.{Records}
 use Rattle.abreast.specs.Pairing.{Pairing, answersAfter, halvesOf, lefts, memoriesOf, movedBoth, pairLed, pairNext, pairOutcome, pairTakes, poweredBoth, rights, takenOf}
-use Rattle.abreast.specs.PinLaws.{same-pins}
+use Rattle.halves.specs.RefuseLaws.{same-pins}
 
 -- what holds of a pair at every moment from power-up on: each half's notes agree with it, and both are in one mode
 pub record Paired (part : Part) (b : Pairing) : Type 0 where
@@ -81,11 +81,12 @@ module _ (part : Part) (b : Pairing) (g : Paired part b) where
   pub passes-test : passesBoth part (halvesOf b) ≡ true
   unfolding passesBoth
   passes-test =
+      let mode : isFwft (b .left .state .read .mode) ≡ isFwft (b .right .state .read .mode) = sym (g .left .agrees .fwft) ∙ g .mode ∙ g .right .agrees .fwft in
       simp (
         reached-passes part (b .left .state) (g .leftCounts) (g .left .reached),
         reached-passes part (b .right .state) (g .rightCounts) (g .right .reached),
-        same-alike (isFwft (b .left .state .read .mode)) (isFwft (b .right .state .read .mode))
-            (sym (g .left .agrees .fwft) ∙ g .mode ∙ g .right .agrees .fwft),
+        mode,
+        alike-itself (isFwft (b .right .state .read .mode)),
       )
 
   sized : isDepth part (length (b .left .memory)) && isDepth part (length (b .right .memory)) ≡ true
@@ -101,7 +102,7 @@ module _ (part : Part) (b : Pairing) (g : Paired part b) where
 
     -- taken, with these answers: both parts take their own records, with these answers, and so does each by itself
     pub record TakenEach (left right : ℕ) : Type 0 where
-      pub same : SamePins (x .left) (x .right)
+      pub same : samePins (x .left) (x .right) ≡ true
       pub leftOutcome : outcome part (b .left) (x .left) .sampled .outcome ≡ fifo.Taken left
       pub rightOutcome : outcome part (b .right) (x .right) .sampled .outcome ≡ fifo.Taken right
       pub leftNext : pairNext part b x .left ≡ next part (b .left) (x .left)
@@ -120,7 +121,7 @@ module _ (part : Part) (b : Pairing) (g : Paired part b) where
           let ol : outcome part (b .left) (x .left) .sampled .outcome ≡ fifo.Taken left = ap (λ (a : single.After). a .sampled .outcome) l ∙ each .2 in
           let or : outcome part (b .right) (x .right) .sampled .outcome ≡ fifo.Taken right = ap (λ (a : single.After). a .sampled .outcome) r ∙ each .3 in
           record {
-            same = eqb-true _ _ (free-both part x (halvesOf b) (each .0) .2);
+            same = free-both part x (halvesOf b) (each .0) .2;
             leftOutcome = ol;
             rightOutcome = or;
             leftNext = rw (whole, ol) refl;

@@ -12,9 +12,9 @@ use Rattle.counts.specs.Part.{numberOf}
 use Rattle.counts.specs.PartLaws.{own-number}
 use Rattle.notes.specs.Fold.{begun, ended, started}
 use Rattle.notes.specs.ReachLaws.{Follows, cond-either, fold-follows, fold-number, leftBy}
-use Rattle.pair.specs.declared.state.Halves.{Halves}
+use Rattle.halves.specs.declared.state.Halves.{Halves}
 use Rattle.pair.specs.Sample.{After}
-use Rattle.pair.specs.Two.{Two}
+use Rattle.halves.specs.Two.{Two}
 use Rattle.pair_runs.specs.declared.samples.Sample.{Sample}
 use Rattle.pair_runs.specs.declared.samples.Sample.the-variants.{Whole, Leftover, End}
 use Rattle.pair_runs.specs.Run.{Ended, Progress, atEnd, fitting, runOf, turned, worked}

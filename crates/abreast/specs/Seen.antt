@@ -1,19 +1,18 @@
 -- What is seen of a trace on two parts, as tests, which compute.
-use Prim.Native.Nat.{ℕ, _/_, _^_}
+use Prim.Native.Nat.{ℕ}
 use mathlib.Core.Bool.{Bool, true, false, not, _&&_, _||_, and-eq-true-iff, true≢false}
 use mathlib.Core.List.{List, [], _∷_}
-use mathlib.Core.Path.{_≡_, refl, sym, _∙_}
-use lib.Dec.{eqb}
+use mathlib.Core.Path.{_≡_, refl, sym}
 use lib.ListN.{length}
-use borrow.Author.Tests.{eqb-true}
 use Rattle.counts.specs.declared.part.Part.{Part}
 use Rattle.counts.specs.declared.part.Part.the-variants.{Idt72V255LA as part255}
+use Rattle.halves.specs.Refuse.{samePins}
 use Rattle.pins.specs.Record.{pinsOf}
 use Rattle.history.specs.Asked.{takenNext}
 use Rattle.history.specs.Onlooker.{asksRead, asksWrite, full, ready}
 use Rattle.history.specs.Tight.{zeros}
 use Rattle.history.specs.Trace.{Moment, next, powerUp, shownBy, takes}
-use Rattle.abreast.specs.Abreast.{Each, NeverApart, Records, RoomHeeded, Together, WordHeeded}
+use Rattle.abreast.specs.Abreast.{Records, RoomHeeded, TakenSame, WordHeeded}
 
 -- whether each sample is taken by both with the same pins, each write asked while both show room and each read while both show a word
 -- ready; whether at least the left part does; and the words accepted by each and taken from each in the end
@@ -26,7 +25,7 @@ pub record Seen : Type 0 where
   pub accepted : ℕ × ℕ
   pub taken : ℕ × ℕ
 
-abbrev only : Bool → Bool → Bool
+abbrev pub only : Bool → Bool → Bool
 only asked shown = not asked || shown
 
 only-by : (asked one two : Bool) → only asked (one && two) ≡ true → asked ≡ true → (one ≡ true) × (two ≡ true)
@@ -38,20 +37,20 @@ is-not true e = absurd (true≢false (sym e))
 is-not false e = refl
 
 module _ (part : Part) where
-  abbrev showsRoom : Moment → Bool
+  abbrev pub showsRoom : Moment → Bool
   showsRoom m = not (full (m .notes .fwft) (shownBy part (m .state)))
 
-  abbrev showsWord : Moment → Bool
+  abbrev pub showsWord : Moment → Bool
   showsWord m = ready (m .notes .fwft) (shownBy part (m .state))
 
-  abbrev asksToWrite : Moment → Records → Bool
+  abbrev pub asksToWrite : Moment → Records → Bool
   asksToWrite left s = asksWrite (left .notes) (pinsOf (s .left))
 
-  abbrev asksToRead : Moment → Records → Bool
+  abbrev pub asksToRead : Moment → Records → Bool
   asksToRead left s = asksRead (left .notes) (pinsOf (s .left))
 
-  abbrev takenSame : Moment → Moment → Records → Bool
-  takenSame left right s = takes part left (s .left) && takes part right (s .right) && eqb (s .left / 2 ^ 21) (s .right / 2 ^ 21)
+  abbrev pub takenSame : Moment → Moment → Records → Bool
+  takenSame left right s = takes part left (s .left) && takes part right (s .right) && samePins (s .left) (s .right)
 
   -- with so many words taken before
   unfoldable pub seenFrom : Moment → ℕ → Moment → ℕ → List Records → Seen
@@ -76,42 +75,21 @@ module _ (part : Part) where
         taken = later .taken;
       }
 
-  -- what the tests tell,
+  -- what the tests tell
   module _ (left right : Moment) (s : Records) where
-    together-told : takenSame left right s ≡ true → Together part left right s
-    together-told e =
-        let both = and-eq-true-iff (takes part left (s .left) && takes part right (s .right)) (eqb (s .left / 2 ^ 21) (s .right / 2 ^ 21)) .0 e in
+    pub taken-told : takenSame left right s ≡ true → TakenSame part left right s
+    taken-told e =
+        let both = and-eq-true-iff (takes part left (s .left) && takes part right (s .right)) (samePins (s .left) (s .right)) .0 e in
         let taken = and-eq-true-iff (takes part left (s .left)) (takes part right (s .right)) .0 (both .0) in
-        record { verdict = taken .0 ∙ sym (taken .1); same = λ is. eqb-true _ _ (both .1) }
+        (taken .0, taken .1, both .1)
 
-    room-told : only (asksToWrite left s) (showsRoom left && showsRoom right) ≡ true → RoomHeeded part left right s
-    room-told e taken asked =
+    pub room-told : only (asksToWrite left s) (showsRoom left && showsRoom right) ≡ true → RoomHeeded part left right s
+    room-told e asked =
         let both = only-by (asksToWrite left s) (showsRoom left) (showsRoom right) e asked in
         (is-not _ (both .0), is-not _ (both .1))
 
-    word-told : only (asksToRead left s) (showsWord left && showsWord right) ≡ true → WordHeeded part left right s
-    word-told e taken asked = only-by (asksToRead left s) (showsWord left) (showsWord right) e asked
-
-  pub heeded-told : (samples : List Records) (left right : Moment) (n k : ℕ) → let v = seenFrom left n right k samples in
-      (v .together ≡ true → Each part (Together part) left right samples)
-      × (v .room ≡ true → Each part (RoomHeeded part) left right samples)
-      × (v .word ≡ true → Each part (WordHeeded part) left right samples)
-  unfolding seenFrom
-  heeded-told [] left right n k = (λ e. tt, λ e. tt, λ e. tt)
-  heeded-told (s ∷ samples) left right n k =
-      let rest = heeded-told samples (next part left (s .left)) (next part right (s .right)) (takenNext part left (s .left) n) (takenNext part right (s .right) k) in (
-        λ e. let both = and-eq-true-iff _ _ .0 e in (together-told left right s (both .0), rest .0 (both .1)),
-        λ e. let both = and-eq-true-iff _ _ .0 e in (room-told left right s (both .0), rest .1 (both .1)),
-        λ e. let both = and-eq-true-iff _ _ .0 e in (word-told left right s (both .0), rest .2 (both .1)),
-      )
-
-  -- and that parts which are never apart end with equal numbers
-  pub equal-told : (samples : List Records) (left right : Moment) (n k : ℕ) → NeverApart part left n right k samples
-      → let v = seenFrom left n right k samples in (v .accepted .0 ≡ v .accepted .1) × (v .taken .0 ≡ v .taken .1)
-  unfolding seenFrom
-  equal-told [] left right n k never = (never .accepted, never .taken)
-  equal-told (s ∷ samples) left right n k never =
-      equal-told samples (next part left (s .left)) (next part right (s .right)) (takenNext part left (s .left) n) (takenNext part right (s .right) k) (never .1)
+    pub word-told : only (asksToRead left s) (showsWord left && showsWord right) ≡ true → WordHeeded part left right s
+    word-told e asked = only-by (asksToRead left s) (showsWord left) (showsWord right) e asked
 
 -- on two parts 255, from power-up with memories of zeros
 abbrev pub seen : List Records → Seen

@@ -2,7 +2,7 @@
 use Prim.Native.Nat.{ℕ, _/_}
 use mathlib.Core.Bool.{Bool, true, false, not, cond, _&&_, true≢false}
 use mathlib.Core.List.{List}
-use mathlib.Core.Path.{_≡_, refl}
+use mathlib.Core.Path.{_≡_, refl, sym}
 use lib.Dec.{leb·zero}
 use borrow.Author.Tests.{le-ltb, ne-eqb}
 use native.Mathlib.Omega.{arith}
@@ -21,7 +21,7 @@ use Rattle.pins.specs.declared.answer.Lines.{Lines}
 use Rattle.pins.specs.declared.record.Pins.{Pins}
 use Rattle.sides.specs.declared.read.Mode.{Mode}
 use Rattle.sides.specs.declared.read.Mode.the-variants.{Standard, Fwft}
-use Rattle.sides.specs.Read.{ready, seesWord}
+use Rattle.sides.specs.Read.{modeAfter, readAfter, ready, seesWord}
 use Rattle.sides.specs.Write.{full}
 use Rattle.views.specs.Flags.{fullAt, hfLow}
 use Rattle.views.specs.declared.retransmit.Setup.the-variants.{Over}
@@ -72,6 +72,11 @@ pub kept-fwft : (mode : Mode) → isFwft (keptMode mode) ≡ isFwft mode
 kept-fwft Standard = refl
 kept-fwft (Fwft untaken) = refl
 
+-- outside reset too
+pub stays-fwft : (mode : Mode) (retransmitted delivered taken : Bool) → isFwft mode ≡ isFwft (modeAfter mode retransmitted delivered taken)
+stays-fwft Standard retransmitted delivered taken = refl
+stays-fwft (Fwft untaken) retransmitted delivered taken = refl
+
 -- whatever the clocks do in it, a reset leaves their levels, no count, no stage, nothing remembered of a rise and no retransmit in progress
 pub record Cleared (p : Pins) (after : State) : Type 0 where
   pub wclk : after .write .level ≡ p .wclk
@@ -100,6 +105,12 @@ reset-by : (P : State → Type 0) (mrs prs : Bool) (run kept fresh : State) → 
 reset-by P true true run kept fresh e k f = absurd (true≢false e)
 reset-by P true false run kept fresh e k f = k
 reset-by P false prs run kept fresh e k f = f
+
+mode-by : (mrs prs : Bool) (run kept fresh : State) {before fwft : Bool} → isFwft (run .read .mode) ≡ before → isFwft (kept .read .mode) ≡ before
+    → isFwft (fresh .read .mode) ≡ fwft → isFwft (cond mrs (cond prs run kept) fresh .read .mode) ≡ cond mrs before fwft
+mode-by true true run kept fresh r k f = r
+mode-by true false run kept fresh r k f = k
+mode-by false prs run kept fresh r k f = f
 
 module _ (part : Part) (p : Pins) (fetched : ℕ) (s : State) where
   pub master-wins : Low (p .mrs) → stateAfter part p fetched s ≡ masterReset p
@@ -130,6 +141,13 @@ module _ (part : Part) (p : Pins) (fetched : ℕ) (s : State) where
       (after .started ≡ s .started) × (isFwft (after .read .mode) ≡ isFwft (s .read .mode)) × (after .offsets ≡ s .offsets) × (after .reading ≡ ended (s .reading .next))
   unfolding stateAfter partialReset cleared
   partial-keeps e f = simp (e, f) (refl, kept-fwft (s .read .mode), refl, refl)
+
+  -- a Master Reset alone selects the timing mode
+  pub mode-follows : isFwft (stateAfter part p fetched s .read .mode) ≡ cond (p .mrs) (isFwft (s .read .mode)) (p .fwft)
+  unfolding stateAfter running readAfter partialReset masterReset cleared
+  mode-follows =
+      mode-by (p .mrs) (p .prs) (running part p fetched s) (partialReset p s) (masterReset p)
+      (sym (stays-fwft (s .read .mode) _ _ _)) (kept-fwft (s .read .mode)) (selected-fwft (p .fwft))
 
 pub memory-stays : (part : Part) (p : Pins) (s : State) (memory : List ℕ) → p .mrs && p .prs ≡ false → memoryAfter part p s memory ≡ memory
 unfolding memoryAfter storeOf

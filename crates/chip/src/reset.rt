@@ -83,7 +83,7 @@ fn clear(
     }
 }
 
-fn select_mode(fwft: bool) -> Mode
+pub fn select_mode(fwft: bool) -> Mode
     ensures { λ r. ⌜ r ≡ selectedMode fwft ⌝ }
 {
     if fwft {

@@ -9,7 +9,7 @@ use Rattle.chip.specs.declared.state.State.{State}
 use Rattle.chip.specs.Advance.{advanced, running, stateAfter}
 use Rattle.chip.specs.Answer.{efLevel, linesOf}
 use Rattle.chip.specs.HalfLaws.{half-exact}
-use Rattle.chip.specs.ResetLaws.{isFwft}
+use Rattle.chip.specs.ResetLaws.{isFwft, stays-fwft}
 use Rattle.counts.specs.declared.part.Part.{Part}
 use Rattle.counts.specs.Part.{depthOf}
 use Rattle.counts.specs.Sized.{part-sized}
@@ -34,7 +34,7 @@ use Rattle.history.specs.LedLaws.{countsNext, sample-steps, told-next}
 use Rattle.history.specs.Onlooker.{delivers, full, outside, rclkRises, reads, ready, wclkRises}
 use Rattle.history.specs.TimeLaws.{on-by}
 use Rattle.history.specs.Told.{Told}
-use Rattle.history.specs.WentOnLaws.{kept-fwft, register-after}
+use Rattle.history.specs.WentOnLaws.{register-after}
 use Rattle.history.specs.Trace.{Moment, next, shownBy, takes}
 
 over-by : (setup : Setup) → isOver setup ≡ eqb (risesLeft setup) 0
@@ -156,7 +156,7 @@ module _ (part : Part) (m : Moment) (t : TrueCounts) (g : Told part m t) (c : Cr
           reads-told part m t (g .agrees) p away,
           ← sees-judged part m t g c k,
           fwft-shows mode (readyBy mode (read.seesWord (m .state .read))) fwft,
-          fwft-shows (on .read .mode) (read.ready (on .read)) (sym (kept-fwft mode _ _ _) ∙ fwft),
+          fwft-shows (on .read .mode) (read.ready (on .read)) (sym (stays-fwft mode _ _ _) ∙ fwft),
         )
         (output-by mode rises (p .ld) (p .ren) (p .rt) (read.seesWord (m .state .read)) (read.seesWord (on .read)) fwft)
 

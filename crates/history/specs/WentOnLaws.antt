@@ -9,7 +9,7 @@ use Rattle.chip.specs.declared.advance.Store.{Store}
 use Rattle.chip.specs.declared.advance.Store.the-variants.{Keep, Put}
 use Rattle.chip.specs.declared.state.State.{State}
 use Rattle.chip.specs.Advance.{running, stored}
-use Rattle.chip.specs.ResetLaws.{isFwft}
+use Rattle.chip.specs.ResetLaws.{isFwft, stays-fwft}
 use Rattle.counts.specs.declared.part.Part.{Part}
 use Rattle.counts.specs.Part.{depthOf}
 use Rattle.counts.specs.Round.{placeOf}
@@ -34,10 +34,6 @@ use Rattle.history.specs.Onlooker.{Shown, lastOf, outside, wentOn}
 use Rattle.history.specs.Told.{Agrees, Came, Told}
 use Rattle.history.specs.Trace.{Moment, at, shownBy}
 use Rattle.history.specs.WordLaws.{delivered-after, holds-after, last-after, length-after, take-after}
-
-pub kept-fwft : (mode : Mode) (retransmitted delivered taken : Bool) → isFwft mode ≡ isFwft (modeAfter mode retransmitted delivered taken)
-kept-fwft Standard retransmitted delivered taken = refl
-kept-fwft (Fwft untaken) retransmitted delivered taken = refl
 
 stored-by : (one : Bool) (place value : ℕ) (memory : List ℕ) → stored (cond one (Put place value) Keep) memory ≡ cond one (set memory place value) memory
 stored-by true place value memory = refl
@@ -143,7 +139,7 @@ module _ (part : Part) (m : Moment) (t : TrueCounts) (g : Told part m t) (p : Pi
 
     mode-kept : wentOn (m .notes) p before (shownBy part after) .fwft ≡ isFwft (after .read .mode)
     unfolding wentOn running readAfter
-    mode-kept = g .agrees .fwft ∙ kept-fwft (m .state .read .mode) back delivered (read.reads p (m .state .read))
+    mode-kept = g .agrees .fwft ∙ stays-fwft (m .state .read .mode) back delivered (read.reads p (m .state .read))
 
     came-after : Came (after .read .mode) (nextTrue back delivered (t .read))
     unfolding running readAfter

@@ -1,4 +1,3 @@
-pub mod Header
+pub mod Flags
 pub mod Records
 pub mod Tally
-pub mod Text

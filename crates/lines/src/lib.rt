@@ -1,8 +1,5 @@
-// What the trace programs share: the words that they are asked with, the head of their input, and the lines that they print.
-// Which model the records and answers are of is not known here.
-pub mod header;
-pub mod manner;
+// What the trace programs print: a line for each record, and a last one. Which model the answers are of is not known here.
+pub mod flags;
 pub mod records;
 pub mod tally;
-mod text;
 mod widths;

@@ -1,43 +1,47 @@
-// The lines of a trace's records, and the last line of all.
-ghost use Prim.Native.Nat.{_*_, _+_, _<_, _≤_};
-ghost use Rattle.lines.specs.Records.{putAnswer};
-ghost use lib.ListN.{length};
+// The lines of a trace's records, or of its samples of two records, and the last line of all.
+ghost use Prim.Native.Nat.{_*_, _+_, _<_, _^_, _≤_};
+ghost use Rattle.lines.specs.Records.{putAnswer, putFlags, putTaken, shownBytes};
+ghost use lib.ListN.{getD, length};
 ghost use mathlib.Core.Path.{_≡_};
-use super::text;
+use super::tally::Tally;
 use super::widths;
+use text::bytes;
+use text::digits;
 
 // No line is longer, in bytes: two numbers of 20 digits at most, nine bytes of a word and its blanks, and the end of the line.
 pub const LONGEST: usize = 50;
+
+// What a line shows of a record that was taken, after its index. An answer is three bytes, flags are two digits.
+pub enum Layout {
+    Answer,
+    FlagsAndTwoAnswers,
+}
 
 // All lines of a chunk, whose first record has the index `base`, in one write; whether it was taken.
 pub fn print_records(
     room: &mut [u8],
     base: u64,
+    layout: Layout,
+    flags: &[u8],
     answers: &[u8],
     marks: &[u8],
     records: usize,
 ) -> bool {
-    let count = fitting(records, room.len(), answers.len(), marks.len());
-    let end = put_records(room, base, answers, marks, count);
+    let count = least(records, room.len() / LONGEST);
+    let end = put_records(room, base, layout, flags, answers, marks, count);
     write_first(room, end)
 }
 
 // The last line of all.
-pub fn print_end(accepted: u64, refusal: u8) {
+pub fn print_end(tally: Tally) {
     let mut room = [0u8; LONGEST];
-    let first = text::put_text(&mut room, 0, b"end ");
-    let after = text::put_decimal(&mut room, first, accepted);
-    let end = put_ending(&mut room, after, b" ", refusal);
+    let first = bytes::put_text(&mut room, 0, b"end ");
+    let after = digits::put_decimal(&mut room, first, tally.accepted);
+    let end = put_ending(&mut room, after, b" ", tally.refusal);
     write_first(&room, end);
 }
 
-// A chunk's records always fit; one compare for each room spares a law that says so.
-fn fitting(records: usize, room: usize, answers: usize, marks: usize) -> usize
-    ensures { λ r. ⌜ (r * 50 ≤ room) × (r * 3 ≤ answers) × (r ≤ marks) ⌝ }
-{
-    least(records, least(room / LONGEST, least(answers / 3, marks)))
-}
-
+// A chunk's records always fit; one compare spares a law that says so.
 fn least(a: usize, b: usize) -> usize
     ensures { λ r. ⌜ (r ≤ a) × (r ≤ b) ⌝ }
 {
@@ -50,21 +54,23 @@ fn write_first(room: &[u8], count: usize) -> bool
     io::write_all(libc::STDOUT_FILENO, &room[..count])
 }
 
-fn put_records(room: &mut [u8], base: u64, answers: &[u8], marks: &[u8], count: usize) -> usize
-    requires { ⌜ (count * 50 ≤ length (now room)) × (count * 3 ≤ length (now answers)) × (count ≤ length (now marks)) ⌝ }
+fn put_records(
+    room: &mut [u8],
+    base: u64,
+    layout: Layout,
+    flags: &[u8],
+    answers: &[u8],
+    marks: &[u8],
+    count: usize,
+) -> usize
+    requires { ⌜ count * 50 ≤ length (now room) ⌝ }
     ensures { λ r. ⌜ r ≤ count * 50 ⌝ }
 {
     let mut at: usize = 0;
     let mut i: usize = 0;
     while i < count {
-        at = put_record(
-            room,
-            at,
-            std::num::wrapping_add_u64(base, widths::from_size(i)),
-            answers,
-            marks,
-            i,
-        );
+        let index = std::num::wrapping_add_u64(base, widths::from_size(i));
+        at = put_record(room, at, index, layout, flags, answers, marks, i);
         i += 1;
     }
     at
@@ -75,33 +81,75 @@ fn put_record(
     room: &mut [u8],
     at: usize,
     index: u64,
+    layout: Layout,
+    flags: &[u8],
     answers: &[u8],
     marks: &[u8],
     i: usize,
 ) -> usize
-    requires { ⌜ (at + 50 ≤ length (now room)) × (i * 3 + 3 ≤ length (now answers)) × (i < length (now marks)) ⌝ }
+    requires { ⌜ (at ≤ i * 50) × (i * 50 + 50 ≤ length (now room)) ⌝ }
     ensures { λ r. ⌜ r ≤ at + 50 ⌝ }
 {
-    let after = text::put_decimal(room, at, index);
-    let mark = marks[i];
+    let after = digits::put_decimal(room, at, index);
+    let mark = byte_at(marks, i);
     if mark == 0 {
-        put_answer(room, after, answers, i)
+        let end = put_taken(room, after, layout, flags, answers, i);
+        bytes::put_byte(room, end, b'\n');
+        end + 1
     } else {
         put_ending(room, after, b" refused ", mark)
     }
 }
 
-fn put_answer(room: &mut [u8], at: usize, answers: &[u8], i: usize) -> usize
-    requires { ⌜ (at + 8 ≤ length (now room)) × (i * 3 + 3 ≤ length (now answers)) ⌝ }
-    ensures { λ r. ⌜ (r ≡ at + 8) × (now (room .exit) ≡ putAnswer (now (room .entry)) at (now (answers .entry)) (i * 3)) ⌝ }
+fn put_taken(
+    room: &mut [u8],
+    at: usize,
+    layout: Layout,
+    flags: &[u8],
+    answers: &[u8],
+    i: usize,
+) -> usize
+    requires { ⌜ (at + 17 ≤ length (now room)) × (i * 6 + 5 < 2 ^ 64) ⌝ }
+    ensures { λ r. ⌜ (r ≤ at + 17) × (r ≡ at + shownBytes layout) × (now (room .exit) ≡ putTaken layout (now (room .entry)) at (now (flags .entry)) (now (answers .entry)) i) ⌝ }
 {
-    let from = i * 3;
-    text::put_byte(room, at, b' ');
-    text::put_hex(room, at + 1, answers[from]);
-    text::put_hex(room, at + 3, answers[from + 1]);
-    text::put_hex(room, at + 5, answers[from + 2]);
-    text::put_byte(room, at + 7, b'\n');
-    at + 8
+    match layout {
+        Layout::Answer => {
+            put_answer(room, at, answers, i * 3);
+            at + 7
+        }
+        Layout::FlagsAndTwoAnswers => {
+            put_flags(room, at, flags, i * 2);
+            put_answer(room, at + 3, answers, i * 6);
+            put_answer(room, at + 10, answers, i * 6 + 3);
+            at + 17
+        }
+    }
+}
+
+fn put_flags(room: &mut [u8], at: usize, flags: &[u8], from: usize)
+    requires { ⌜ (at + 3 ≤ length (now room)) × (from + 1 < 2 ^ 64) ⌝ }
+    ensures { λ _. ⌜ now (room .exit) ≡ putFlags (now (room .entry)) at (now (flags .entry)) from ⌝ }
+{
+    bytes::put_byte(room, at, b' ');
+    bytes::put_byte(room, at + 1, byte_at(flags, from));
+    bytes::put_byte(room, at + 2, byte_at(flags, from + 1));
+}
+
+fn put_answer(room: &mut [u8], at: usize, answers: &[u8], from: usize)
+    requires { ⌜ (at + 7 ≤ length (now room)) × (from + 2 < 2 ^ 64) ⌝ }
+    ensures { λ _. ⌜ now (room .exit) ≡ putAnswer (now (room .entry)) at (now (answers .entry)) from ⌝ }
+{
+    bytes::put_byte(room, at, b' ');
+    digits::put_hex(room, at + 1, byte_at(answers, from));
+    digits::put_hex(room, at + 3, byte_at(answers, from + 1));
+    digits::put_hex(room, at + 5, byte_at(answers, from + 2));
+}
+
+// What a run wrote down of a record always stands there; one compare spares the lines a law that says so.
+fn byte_at(bytes: &[u8], at: usize) -> u8
+    ensures { λ r. ⌜ r ≡ getD (now (bytes .entry)) at 0 ⌝ }
+{
+    if at < bytes.len() { bytes[at] } else { 0 }
 }
 
 // A word, a number, and the end of the line.
@@ -109,8 +157,8 @@ fn put_ending(room: &mut [u8], at: usize, word: &[u8], number: u8) -> usize
     requires { ⌜ at + length (now word) + 21 ≤ length (now room) ⌝ }
     ensures { λ r. ⌜ r ≤ at + length (now (word .entry)) + 21 ⌝ }
 {
-    let after = text::put_text(room, at, word);
-    let end = text::put_decimal(room, after, widths::from_number(number));
-    text::put_byte(room, end, b'\n');
+    let after = bytes::put_text(room, at, word);
+    let end = digits::put_decimal(room, after, widths::from_number(number));
+    bytes::put_byte(room, end, b'\n');
     end + 1
 }

@@ -1,5 +1,5 @@
 // What the chunks of a trace that were worked so far come to.
-ghost use Rattle.lines.specs.Tally.{counted};
+ghost use Rattle.lines.specs.Tally.{counted, nothing};
 ghost use mathlib.Core.Path.{_≡_};
 use super::widths;
 
@@ -9,6 +9,17 @@ pub struct Tally {
     pub accepted: u64,
     pub refusal: u8,
     pub over: bool,
+}
+
+pub fn start() -> Tally
+    ensures { λ r. ⌜ r ≡ nothing ⌝ }
+{
+    Tally {
+        records: 0,
+        accepted: 0,
+        refusal: 0,
+        over: false,
+    }
 }
 
 // A chunk more, in which a run ended at an index; it is the last one of the trace, or a refusal makes it so.

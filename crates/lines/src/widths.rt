@@ -1,5 +1,4 @@
 // Numbers in a wider type. A cast in a function of its own asks nothing of the proofs around it.
-ghost use Prim.Native.Nat.{_<_};
 ghost use mathlib.Core.Path.{_≡_};
 
 pub(crate) fn from_size(x: usize) -> u64
@@ -12,10 +11,4 @@ pub(crate) fn from_number(x: u8) -> u64
     ensures { λ r. ⌜ r ≡ x ⌝ }
 {
     x as u64
-}
-
-pub(crate) fn from_byte(x: u8) -> u32
-    ensures { λ r. ⌜ (r ≡ x) × (r < 256) ⌝ }
-{
-    x as u32
 }

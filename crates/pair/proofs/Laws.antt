@@ -1,9 +1,10 @@
 -- One law for each way out of a step and of a sample of two parts.
 use Prim.Native.Nat.{ℕ}
-use mathlib.Core.Bool.{true, false, _&&_}
+use mathlib.Core.Bool.{Bool, true, false, not, _&&_}
 use mathlib.Core.List.{List}
 use mathlib.Core.Path.{_≡_, refl, sym, ap, _∙_}
 use lib.ListN.{length}
+use borrow.Author.Tests.{not-false, not-true}
 use Rattle.counts.specs.declared.part.Lookup.{Lookup}
 use Rattle.counts.specs.declared.part.Lookup.the-variants.{Known, Unknown}
 use Rattle.counts.specs.declared.part.Part.{Part}
@@ -13,22 +14,17 @@ use Rattle.fifo.specs.Sample as single
 use Rattle.pins.specs.declared.record.Pins.{Pins}
 use Rattle.pins.specs.Record.{pinsOf}
 use Rattle.pair.specs.declared.sample.Sampled.{Sampled}
-use Rattle.pair.specs.declared.state.Halves.{Halves}
-use Rattle.pair.specs.Refuse.{pairRefusal}
-use Rattle.pair.specs.Sample.{After, Gives, Samples, Steps, both, joined, numberOf, pairSampled, pairStepped, takenBoth, turnedAway}
+use Rattle.halves.specs.declared.state.Halves.{Halves}
+use Rattle.halves.specs.Refuse.{pairRefusal}
+use Rattle.pair.specs.Sample.{After, Gives, Samples, Steps, both, joined, numberOf, pairSampled, pairStepped, turnedAway}
 use Rattle.pair.specs.SampleLaws.{Numbered, sample-is-step, sample-numbered, step-numbered, step-takes}
-use Rattle.pair.specs.State.{passesBoth}
-use Rattle.pair.specs.Two.{Two, two}
+use Rattle.halves.specs.State.{passesBoth}
+use Rattle.halves.specs.Two.{Two, two}
 
-module _ {left right : fifo.Sampled} {m n : List ℕ} {r : Sampled} (j : r ≡ joined left right) where
-  gives-both : {a b : single.After} → single.Gives a left m → single.Gives b right n → Gives (both a b) r (two m n)
-  gives-both f g = record { result = cc; words = cc }
-
-  pub gives-taken : (part : Part) (x : Two ℕ) (h : Halves) (memory : Two (List ℕ)) {p q : Pins} → p ≡ pinsOf (x .left) → q ≡ pinsOf (x .right)
-      → single.Gives (single.taken part p (h .left) (memory .left)) left m → single.Gives (single.taken part q (h .right) (memory .right)) right n
-      → Gives (takenBoth part x h memory) r (two m n)
-  unfolding takenBoth
-  gives-taken part x h memory d e f g = rw (← d, ← e) (gives-both f g)
+-- what each part gives by itself, side by side
+pub gives-both : {a b : single.After} {left right : fifo.Sampled} {m n : List ℕ} {r : Sampled} → r ≡ joined left right
+    → single.Gives a left m → single.Gives b right n → Gives (both a b) r (two m n)
+gives-both e f g = record { result = cc; words = cc }
 
 gives-by : {a b : After} {r : Sampled} {memory : Two (List ℕ)} → a ≡ b → Gives b r memory → Gives a r memory
 gives-by e g = record { result = g .result ∙ sym (cc e); words = g .words ∙ sym (cc e) }
@@ -49,11 +45,15 @@ pub gives-refusal : {number : ℕ} {h : Halves} {r : Sampled} {memory : Two (Lis
 gives-refusal e = record { result = e; words = refl }
 
 module _ (part : Part) (x : Two ℕ) (h : Halves) (memory : Two (List ℕ)) {number : ℕ} (f : number ≡ pairRefusal part x h) where
-  pub stepped-takes : number ≡ 0 → pairStepped part x h memory ≡ takenBoth part x h memory
-  stepped-takes z = step-takes part x h memory (sym f ∙ z)
+  pub stepped-takes : {p q : Pins} → p ≡ pinsOf (x .left) → q ≡ pinsOf (x .right) → number ≡ 0
+      → pairStepped part x h memory ≡ both (single.taken part p (h .left) (memory .left)) (single.taken part q (h .right) (memory .right))
+  stepped-takes d e z = rw (d, e) (step-takes part x h memory (sym f ∙ z))
 
   pub stepped-refuses : (number ≡ 0 → ⊥) → pairStepped part x h memory ≡ turnedAway number h memory
   stepped-refuses n = rw f (step-numbered part x h memory .still (λ e. n (f ∙ e)))
+
+pub passed : {found asked : Bool} → found ≡ asked → not found ≡ false → asked ≡ true
+passed {found} e n = sym e ∙ not-false found n
 
 module _ (number : ℕ) (x : Two ℕ) (h : Halves) (memory : Two (List ℕ)) {looked : Lookup} (e : looked ≡ partOf number) where
   pub sample-unknown : looked ≡ Unknown → pairSampled number x h memory ≡ turnedAway 1 h memory
@@ -61,15 +61,15 @@ module _ (number : ℕ) (x : Two ℕ) (h : Halves) (memory : Two (List ℕ)) {lo
   sample-unknown u = simp (← e, u)
 
   module _ (part : Part) (k : looked ≡ Known part) where
-    pub sample-length : single.isDepth part (length (memory .left)) && single.isDepth part (length (memory .right)) ≡ false
-        → pairSampled number x h memory ≡ turnedAway 2 h memory
-    unfolding pairSampled
-    sample-length d = simp (← e, k, d)
-
-    module _ (d : single.isDepth part (length (memory .left)) && single.isDepth part (length (memory .right)) ≡ true) where
-      pub sample-state : passesBoth part h ≡ false → pairSampled number x h memory ≡ turnedAway 3 h memory
+    module _ {sized : Bool} (d : sized ≡ single.isDepth part (length (memory .left)) && single.isDepth part (length (memory .right))) where
+      pub sample-length : not sized ≡ true → pairSampled number x h memory ≡ turnedAway 2 h memory
       unfolding pairSampled
-      sample-state t = simp (← e, k, d, t)
+      sample-length n = simp (← e, k, ← d, not-true sized n)
 
-      pub sample-steps : passesBoth part h ≡ true → pairSampled number x h memory ≡ pairStepped part x h memory
-      sample-steps = sample-is-step number x h memory part (sym e ∙ k) d
+      module _ (s : not sized ≡ false) {tested : Bool} (f : tested ≡ passesBoth part h) where
+        pub sample-state : not tested ≡ true → pairSampled number x h memory ≡ turnedAway 3 h memory
+        unfolding pairSampled
+        sample-state n = simp (← e, k, ← d, not-false sized s, ← f, not-true tested n)
+
+        pub sample-steps : not tested ≡ false → pairSampled number x h memory ≡ pairStepped part x h memory
+        sample-steps n = sample-is-step number x h memory part (sym e ∙ k) (passed d s) (passed f n)

@@ -1,9 +1,7 @@
-pub mod Two
-pub mod State
-pub mod StateLaws
-pub mod Composite
-pub mod Refuse
 pub mod Sample
 pub mod SampleLaws
+pub mod NumberLaws
+pub mod ModeLaws
 pub mod Still
 pub mod StillLaws
+pub mod Unique

@@ -9,16 +9,15 @@ use Rattle.counts.specs.declared.part.Part.{Part}
 use Rattle.counts.specs.Part.{byPart, partOf}
 use Rattle.fifo.specs.declared.sample.Sampled as fifo
 use Rattle.fifo.specs.Sample as single
-use Rattle.fifo.specs.Sample.{answerIn, isDepth, stepped, taken}
+use Rattle.fifo.specs.Sample.{answerIn, isDepth, stepped}
 use Rattle.pins.specs.Answer.{putAnswer}
-use Rattle.pins.specs.Record.{pinsOf}
 use Rattle.pair.specs.declared.sample.Outcome.{Outcome}
 use Rattle.pair.specs.declared.sample.Outcome.the-variants.{Taken, Refused}
 use Rattle.pair.specs.declared.sample.Sampled.{Sampled}
-use Rattle.pair.specs.declared.state.Halves.{Halves}
-use Rattle.pair.specs.Refuse.{pairRefusal}
-use Rattle.pair.specs.State.{passesBoth}
-use Rattle.pair.specs.Two.{Two, two}
+use Rattle.halves.specs.declared.state.Halves.{Halves}
+use Rattle.halves.specs.Refuse.{pairRefusal}
+use Rattle.halves.specs.State.{passesBoth}
+use Rattle.halves.specs.Two.{Two, two}
 
 -- what an outcome stands for: its number, 0 where the sample is taken
 abbrev pub numberOf : Outcome → ℕ
@@ -52,9 +51,6 @@ joined left right = record {
 
 abbrev pub both : single.After → single.After → After
 both left right = record { sampled = joined (left .sampled) (right .sampled); memory = two (left .memory) (right .memory) }
-
-unfoldable pub takenBoth : Part → Two ℕ → Halves → Two (List ℕ) → After
-takenBoth part x h memory = both (taken part (pinsOf (x .left)) (h .left) (memory .left)) (taken part (pinsOf (x .right)) (h .right) (memory .right))
 
 -- two records, for a part number, memories and a state that have passed 1 to 3: by both parts' own steps, or by neither
 unfoldable pub pairStepped : Part → Two ℕ → Halves → Two (List ℕ) → After

@@ -8,10 +8,10 @@ use Rattle.fifo.specs.declared.sample.Outcome.the-variants as fifo
 use Rattle.fifo.specs.Still.{still}
 use Rattle.pins.specs.Record.{pinsOf}
 use Rattle.pair.specs.declared.sample.Sampled.{Sampled}
-use Rattle.pair.specs.declared.state.Halves.{Halves}
-use Rattle.pair.specs.Refuse.{samePins}
+use Rattle.halves.specs.declared.state.Halves.{Halves}
+use Rattle.halves.specs.Refuse.{samePins}
 use Rattle.pair.specs.Sample.{joined}
-use Rattle.pair.specs.Two.{Two}
+use Rattle.halves.specs.Two.{Two}
 
 unfoldable pub stillBoth : Two ℕ → Halves → Bool
 stillBoth x h = samePins (x .left) (x .right) && still (x .left) (h .left) && still (x .right) (h .right)

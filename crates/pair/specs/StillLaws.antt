@@ -7,12 +7,12 @@ use Rattle.counts.specs.declared.part.Part.{Part}
 use Rattle.counts.specs.Both.{both}
 use Rattle.fifo.specs.Still.{still}
 use Rattle.fifo.specs.StillLaws.{still-free, still-stepped}
-use Rattle.pair.specs.declared.state.Halves.{Halves}
-use Rattle.pair.specs.Refuse.{pairRefusal, samePins}
+use Rattle.halves.specs.declared.state.Halves.{Halves}
+use Rattle.halves.specs.Refuse.{pairRefusal, samePins}
 use Rattle.pair.specs.Sample.{pairStepped}
 use Rattle.pair.specs.SampleLaws.{step-both}
 use Rattle.pair.specs.Still.{heldBoth, stillBoth}
-use Rattle.pair.specs.Two.{Two}
+use Rattle.halves.specs.Two.{Two}
 
 record Apart (x : Two ℕ) (h : Halves) : Type 0 where
   pins : samePins (x .left) (x .right) ≡ true

@@ -1,5 +1,2 @@
-// Two parts side by side with shared clocks: their state, what is turned away, one sample, and the composite flags.
-pub mod composite;
-pub mod refuse;
+// Two parts side by side over two lent memories: one sample.
 pub mod sample;
-pub mod state;

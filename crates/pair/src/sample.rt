@@ -1,14 +1,14 @@
 // One sample on two records and two lent memories: taken by both parts or by neither.
 ghost use Rattle.chip.specs.State.{widths};
 ghost use Rattle.fifo.specs.Sample.{isDepth};
-ghost use Rattle.pair.specs.Sample.{Gives, Samples, Steps, joined, takenBoth};
+ghost use Rattle.pair.specs.Sample.{Samples, Steps, joined};
 ghost use Rattle.pair.specs.Still.{heldBoth, stillBoth};
-ghost use Rattle.pair.specs.Two.{two};
+ghost use Rattle.halves.specs.Two.{two};
 ghost use mathlib.Core.Bool.{_&&_, true};
 ghost use mathlib.Core.Path.{_≡_};
-use super::state::Halves;
 use counts::part::Lookup;
 use counts::part::Part;
+use halves::state::Halves;
 
 // Taken with both packed answers, or refused with its number.
 pub enum Outcome {
@@ -35,15 +35,13 @@ pub fn sample(
     let Lookup::Known(known) = looked_up else {
         return turn_away(1, state);
     };
-    if are_depth(known, left_memory.len(), right_memory.len()) {
-        if super::state::passes_test(known, state) {
-            step(known, left, right, state, left_memory, right_memory)
-        } else {
-            turn_away(3, state)
-        }
-    } else {
-        turn_away(2, state)
+    if !are_depth(known, left_memory.len(), right_memory.len()) {
+        return turn_away(2, state);
     }
+    if !halves::state::passes_test(known, state) {
+        return turn_away(3, state);
+    }
+    step(known, left, right, state, left_memory, right_memory)
 }
 
 pub fn are_depth(part: Part, left: usize, right: usize) -> bool
@@ -65,17 +63,22 @@ pub fn step(
     ensures { λ r. ⌜ Steps part (two left right) state (two (now («left_memory» .entry)) (now («right_memory» .entry))) r (two (now («left_memory» .exit)) (now («right_memory» .exit))) ⌝ }
 {
     if are_still(left, right, state) {
-        hold(part, left, right, state)
-    } else {
-        take_or_turn_away(part, left, right, state, left_memory, right_memory)
+        return hold(part, left, right, state);
     }
+    let number = halves::refuse::refusal(part, left, right, state);
+    if number != 0 {
+        return turn_away(number, state);
+    }
+    let by_left = fifo::sample::take(part, pins::record::decode(left), state.left, left_memory);
+    let by_right = fifo::sample::take(part, pins::record::decode(right), state.right, right_memory);
+    join(by_left, by_right)
 }
 
 // Such records are never refused and move only the clocks' levels: neither the refusals nor the memories need be looked at.
 fn are_still(left: u32, right: u32, state: Halves) -> bool
     ensures { λ r. ⌜ r ≡ stillBoth (two left right) state ⌝ }
 {
-    super::refuse::is_same_pins(left, right)
+    halves::refuse::is_same_pins(left, right)
         & fifo::sample::is_still(left, state.left)
         & fifo::sample::is_still(right, state.right)
 }
@@ -85,41 +88,6 @@ fn hold(part: Part, left: u32, right: u32, state: Halves) -> Sampled
 {
     let by_left = fifo::sample::hold(part, pins::record::decode(left), state.left);
     let by_right = fifo::sample::hold(part, pins::record::decode(right), state.right);
-    join(by_left, by_right)
-}
-
-fn take_or_turn_away(
-    part: Part,
-    left: u32,
-    right: u32,
-    state: Halves,
-    left_memory: &mut [u32],
-    right_memory: &mut [u32],
-) -> Sampled
-    requires { ⌜ (widths part (state .left) ≡ true) × (widths part (state .right) ≡ true) ⌝ }
-    ensures { λ r. ⌜ Steps part (two left right) state (two (now («left_memory» .entry)) (now («right_memory» .entry))) r (two (now («left_memory» .exit)) (now («right_memory» .exit))) ⌝ }
-{
-    let number = super::refuse::refusal(part, left, right, state);
-    if number == 0 {
-        take(part, left, right, state, left_memory, right_memory)
-    } else {
-        turn_away(number, state)
-    }
-}
-
-fn take(
-    part: Part,
-    left: u32,
-    right: u32,
-    state: Halves,
-    left_memory: &mut [u32],
-    right_memory: &mut [u32],
-) -> Sampled
-    requires { ⌜ (widths part (state .left) ≡ true) × (widths part (state .right) ≡ true) ⌝ }
-    ensures { λ r. ⌜ Gives (takenBoth part (two left right) state (two (now («left_memory» .entry)) (now («right_memory» .entry)))) r (two (now («left_memory» .exit)) (now («right_memory» .exit))) ⌝ }
-{
-    let by_left = fifo::sample::take(part, pins::record::decode(left), state.left, left_memory);
-    let by_right = fifo::sample::take(part, pins::record::decode(right), state.right, right_memory);
     join(by_left, by_right)
 }
 

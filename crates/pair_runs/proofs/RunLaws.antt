@@ -23,11 +23,11 @@ use Rattle.notes.specs.NoteLaws.{put-length}
 use Rattle.pair.specs.declared.sample.Outcome.{Outcome}
 use Rattle.pair.specs.declared.sample.Outcome.the-variants.{Taken, Refused}
 use Rattle.pair.specs.declared.sample.Sampled.{Sampled}
-use Rattle.pair.specs.declared.state.Halves.{Halves}
+use Rattle.halves.specs.declared.state.Halves.{Halves}
 use Rattle.pair.specs.Sample.{After, Gives, answersAfter, numberOf, pairStepped}
 use Rattle.pair.specs.SampleLaws.{step-lengths, step-numbered, step-widths}
-use Rattle.pair.specs.State.{passesBoth}
-use Rattle.pair.specs.Two.{Two, two}
+use Rattle.halves.specs.State.{passesBoth}
+use Rattle.halves.specs.Two.{Two, two}
 use Rattle.pair_runs.proofs.samples.Sample.{the-type}
 use Rattle.pair_runs.specs.declared.samples.Sample.{Sample}
 use Rattle.pair_runs.specs.declared.samples.Sample.the-variants.{Whole, Leftover, End}

@@ -7,10 +7,10 @@ use Rattle.counts.specs.declared.part.Part.{Part}
 use Rattle.fifo.specs.Sample.{isDepth}
 use Rattle.notes.specs.Fold as fold
 use Rattle.notes.specs.Fold.{Ends, EndsStrict, Stepping, Turn, begun, folded, roomy, started}
-use Rattle.pair.specs.declared.state.Halves.{Halves}
+use Rattle.halves.specs.declared.state.Halves.{Halves}
 use Rattle.pair.specs.Sample.{After, answersAfter, numberOf, pairStepped}
-use Rattle.pair.specs.State.{passesBoth}
-use Rattle.pair.specs.Two.{Two}
+use Rattle.halves.specs.State.{passesBoth}
+use Rattle.halves.specs.Two.{Two}
 use Rattle.pair_runs.specs.declared.run.Ran.{Ran}
 use Rattle.pair_runs.specs.Samples as samples
 use Rattle.pair_runs.specs.Samples.{sampleAt, samplesFrom, wholeSamples}

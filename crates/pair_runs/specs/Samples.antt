@@ -3,7 +3,7 @@ use Prim.Native.Nat.{ℕ, _+_, _*_, _/_}
 use mathlib.Core.List.{List}
 use mathlib.Core.Path.{_≡_}
 use lib.ListN.{length}
-use Rattle.pair.specs.Two.{Two, two}
+use Rattle.halves.specs.Two.{Two, two}
 use Rattle.pins.specs.Trace.{itemsFrom, numberAt, standing, wordAt}
 use Rattle.pair_runs.specs.declared.samples.Sample.{Sample}
 use Rattle.pair_runs.specs.declared.samples.Sample.the-variants.{Whole, Leftover, End}

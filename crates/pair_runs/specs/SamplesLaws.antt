@@ -7,7 +7,7 @@ use lib.Dec.{eqb, ltb}
 use lib.ListN.{length}
 use borrow.Author.Tests.{ltb-false, ltb-true}
 use native.Mathlib.Omega.{arith}
-use Rattle.pair.specs.Two.{Two, two}
+use Rattle.halves.specs.Two.{Two, two}
 use Rattle.pins.specs.Trace.{numberAt, wordAt}
 use Rattle.pins.specs.TraceLaws.{items-split, past-all, standing-number, standing-whole, word-first, word-second}
 use Rattle.pair_runs.specs.declared.samples.Sample.{Sample}

@@ -3,7 +3,7 @@ ghost use Prim.Native.Nat.{_*_, _+_, _<_, _≤_};
 ghost use Rattle.chip.specs.State.{widths};
 ghost use Rattle.notes.specs.Fold.{Ends, started};
 ghost use Rattle.pair.specs.Sample.{answersAfter, numberOf};
-ghost use Rattle.pair.specs.Two.{two};
+ghost use Rattle.halves.specs.Two.{two};
 ghost use Rattle.pair_runs.specs.Run.{Began, Runs, RunsLenient, ranOf, worked};
 ghost use Rattle.pair_runs.specs.Samples as samples;
 ghost use Rattle.pair_runs.specs.Samples.{wholeSamples};
@@ -13,8 +13,8 @@ ghost use mathlib.Core.Path.{_≡_};
 use super::samples::Sample;
 use counts::part::Lookup;
 use counts::part::Part;
+use halves::state::Halves;
 use pair::sample::Outcome;
-use pair::state::Halves;
 
 // Where a run ended: the index of the sample that it refused, or of the end of the trace, and the number, 0 for none.
 pub struct Ran {
@@ -89,7 +89,7 @@ fn begin(
     let whole = trace.len() / 8;
     let sized = pair::sample::are_depth(known, left_memory.len(), right_memory.len());
     if sized & notes::answers::is_roomy(lenient, whole * 6, whole, answers.len(), marks.len()) {
-        if pair::state::passes_test(known, state) {
+        if halves::state::passes_test(known, state) {
             go(
                 lenient,
                 known,

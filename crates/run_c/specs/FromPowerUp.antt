@@ -4,8 +4,8 @@ use mathlib.Core.Bool.{false}
 use mathlib.Core.List.{List, []}
 use Rattle.chip.specs.Reset.{poweredUp}
 use Rattle.notes.specs.Fold.{Ended, EndsStrict, started}
-use Rattle.pair.specs.State.{poweredUpBoth}
-use Rattle.pair.specs.Two.{Two}
+use Rattle.halves.specs.State.{poweredUpBoth}
+use Rattle.halves.specs.Two.{Two}
 use Rattle.pair_runs.specs.Run as pair
 use Rattle.runs.specs.Run as single
 

@@ -3,7 +3,7 @@ use Prim.Native.Nat.{ℕ}
 use mathlib.Core.List.{List}
 use mathlib.Core.Path.{_≡_}
 use Rattle.notes.specs.Unique.{strict-unique}
-use Rattle.pair.specs.Two.{Two}
+use Rattle.halves.specs.Two.{Two}
 use Rattle.run_c.specs.FromPowerUp.{PairRunsFromPowerUp, RunsFromPowerUp}
 
 pub from-power-up-unique : (number : ℕ) (bytes memory answers : List ℕ) (a b : ℕ) (m n k l : List ℕ)

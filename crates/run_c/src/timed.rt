@@ -1,6 +1,6 @@
 // A run from power-up under a name for programs in C, which time it. They know their traces to be legal, so that an index is
 // enough for them.
-ghost use Rattle.pair.specs.Two.{two};
+ghost use Rattle.halves.specs.Two.{two};
 ghost use Rattle.run_c.specs.FromPowerUp.{PairRunsFromPowerUp, RunsFromPowerUp};
 
 // A strict run from power-up, and the index at which it ended.
@@ -24,7 +24,7 @@ pub extern "C" fn pair_run(
 ) -> usize
     ensures { λ r. ⌜ PairRunsFromPowerUp part (now (trace .entry)) (two (now («left_memory» .entry)) (now («right_memory» .entry))) (now (answers .entry)) r (two (now («left_memory» .exit)) (now («right_memory» .exit))) (now (answers .exit)) ⌝ }
 {
-    let state = pair::state::power_up();
+    let state = halves::state::power_up();
     let both = pair_runs::run::run(part, trace, state, left_memory, right_memory, answers);
     both.index
 }

@@ -1,13 +1,13 @@
-// The trace worked chunk by chunk, so that a trace of any length takes the same memory.
+// The trace worked chunk by chunk.
 use chip::state::State;
+use input::chunks;
+use input::chunks::RECORDS;
 use lines::records;
+use lines::records::Layout;
 use lines::tally;
 use lines::tally::Tally;
 use runs::run::Ran;
 
-const RECORDS: usize = 4096;
-
-// In bytes: whole records, so that none lies across two chunks.
 const CHUNK: usize = RECORDS * 4;
 
 // What is carried from chunk to chunk.
@@ -19,18 +19,13 @@ struct Progress {
 pub(crate) fn work_all(lenient: bool, part: u32, memory: &mut [u32]) {
     let mut room = [0u8; RECORDS * records::LONGEST];
     let tally = work_chunks(lenient, part, memory, &mut room);
-    records::print_end(tally.accepted, tally.refusal);
+    records::print_end(tally);
 }
 
 fn work_chunks(lenient: bool, part: u32, memory: &mut [u32], room: &mut [u8]) -> Tally {
     let mut progress = Progress {
         state: chip::reset::power_up(),
-        tally: Tally {
-            records: 0,
-            accepted: 0,
-            refusal: 0,
-            over: false,
-        },
+        tally: tally::start(),
     };
     // No contract says that the input ends, so a count of the chunks that are left does.
     let mut left = u64::MAX;
@@ -52,7 +47,7 @@ fn work_chunk(
     room: &mut [u8],
 ) -> Progress {
     let mut trace = [0u8; CHUNK];
-    let got = io::read_full(libc::STDIN_FILENO, &mut trace);
+    let came = chunks::read(&mut trace);
     let mut answers = [0u8; RECORDS * 3];
     // A strict run leaves them at 0: each record before its end has an answer.
     let mut marks = [0u8; RECORDS];
@@ -60,16 +55,23 @@ fn work_chunk(
     let ran = run(
         lenient,
         part,
-        &trace[..got],
+        &trace[..came],
         state,
         memory,
         &mut answers,
         &mut marks,
     );
     let tally = before.tally;
-    let printed = records::print_records(room, tally.records, &answers, &marks, ran.index);
-    // A chunk that is not full is the last; and there is no use in going on where nobody takes the lines.
-    move_on(tally, ran, (got < CHUNK) | !printed)
+    let printed = records::print_records(
+        room,
+        tally.records,
+        Layout::Answer,
+        b"",
+        &answers,
+        &marks,
+        ran.index,
+    );
+    move_on(tally, ran, came, printed)
 }
 
 fn run(
@@ -88,7 +90,8 @@ fn run(
     }
 }
 
-fn move_on(before: Tally, ran: Ran, last: bool) -> Progress {
+fn move_on(before: Tally, ran: Ran, came: usize, printed: bool) -> Progress {
+    let last = chunks::is_last(came, CHUNK, printed);
     let state = ran.state;
     Progress {
         state: state,

@@ -5,16 +5,12 @@ use Rattle.trace.proofs.trace.Statement.{statement}
 use Rattle.trace.proofs.trace.Tie as tie
 
 slice-aggregate-work-all : tie.Need-slice-aggregate-work-all
-slice-aggregate-work-all c = sym (length-take-le _ _ (c .before .memory-depth .ensures))
+slice-aggregate-work-all c = sym (length-take-le _ _ (c .before .words .ensures .1))
 
 pub trace-spec : {M : Type 1} → statement M
 trace-spec =
     tie.close
     (tie.spec
-    (λ c. search needs)
-    (λ c κs. search needs)
-    (λ c. search needs)
-    (λ c. search needs)
     (λ c κs. search needs)
     (λ c κs. search needs)
     (λ c. search needs)

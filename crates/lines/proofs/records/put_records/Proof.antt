@@ -6,10 +6,10 @@ use Rattle.lines.proofs.records.put_records.Statement.{statement}
 use Rattle.lines.proofs.records.put_records.Tie as tie
 
 abbrev Inv-loop : tie.InvT-loop
-Inv-loop room₀ base answers marks count at₀ i₀ room at i = (length room ≡ length room₀) × (at ≤ i * 50) × (i ≤ count)
+Inv-loop room₀ base layout flags answers marks count at₀ i₀ room at i = (length room ≡ length room₀) × (at ≤ i * 50) × (i ≤ count)
 
 abbrev μ-loop : tie.MeasureT-loop
-μ-loop room₀ base answers marks count at₀ i₀ room at i = count - i
+μ-loop room₀ base layout flags answers marks count at₀ i₀ room at i = count - i
 
 pub put-records-spec : {M : Type 1} → statement M
 put-records-spec =

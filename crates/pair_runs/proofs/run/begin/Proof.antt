@@ -3,8 +3,8 @@ use denote.Ref.{now}
 use borrow.Author.Needs.{needs}
 use Rattle.notes.specs.Fold.{started}
 use Rattle.notes.specs.LoopLaws.{ends-by, turned-away}
-use Rattle.pair.specs.StateLaws.{tested-both-widths}
-use Rattle.pair.specs.Two.{two}
+use Rattle.halves.specs.StateLaws.{tested-both-widths}
+use Rattle.halves.specs.Two.{two}
 use Rattle.pair_runs.proofs.RunLaws.{room-told, run-room, run-state, run-unknown, run-works}
 use Rattle.pair_runs.proofs.run.begin.Statement.{statement}
 use Rattle.pair_runs.proofs.run.begin.Tie as tie

@@ -4,7 +4,7 @@ use denote.Ref.{now}
 use borrow.Author.Needs.{needs}
 use native.Mathlib.Omega.{arith}
 use Rattle.notes.specs.Fold.{started}
-use Rattle.pair.specs.Two.{two}
+use Rattle.halves.specs.Two.{two}
 use Rattle.pair_runs.specs.Samples.{wholeSamples}
 use Rattle.pair_runs.specs.SamplesLaws.{whole-below}
 use Rattle.pair_runs.proofs.RunLaws.{Going, both-wide, each-wide, ended-now, going, no-whole, stopped-now, turned-now, words-kept}

@@ -3,8 +3,8 @@ use mathlib.Core.Bool.{false}
 use mathlib.Core.List.{[]}
 use borrow.Author.Needs.{needs}
 use Rattle.notes.specs.Fold.{started}
-use Rattle.pair.specs.declared.state.Halves.{Halves}
-use Rattle.pair.specs.Two.{two}
+use Rattle.halves.specs.declared.state.Halves.{Halves}
+use Rattle.halves.specs.Two.{two}
 use Rattle.pair_runs.specs.declared.run.Ran.{Ran}
 use Rattle.pair_runs.specs.Run.{runOf}
 use Rattle.run_c.proofs.Began.{began}

@@ -1,0 +1,8 @@
+pub mod Two
+pub mod State
+pub mod StateLaws
+pub mod Composite
+pub mod CompositeLaws
+pub mod Refuse
+pub mod RefuseLaws
+pub mod Unique
