@@ -12,10 +12,10 @@ use Rattle.counts.specs.declared.part.Part.{Part}
 use Rattle.notes.specs.Fold.{noted}
 use Rattle.notes.specs.TraceLaws as trace
 use Rattle.pair.specs.declared.sample.Outcome.the-variants.{Taken, Refused}
-use Rattle.pair.specs.Refuse.{pairRefusal}
+use Rattle.halves.specs.Refuse.{pairRefusal}
 use Rattle.pair.specs.Sample.{After, answersAfter}
 use Rattle.pair.specs.SampleLaws.{step-numbered}
-use Rattle.pair.specs.Two.{two}
+use Rattle.halves.specs.Two.{two}
 use Rattle.pins.specs.Answer.{putAnswer}
 use Rattle.pins.specs.Trace.{wordAt}
 use Rattle.pair_runs.specs.FoldLaws.{samples-cut}

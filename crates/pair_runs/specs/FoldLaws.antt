@@ -15,11 +15,11 @@ use Rattle.notes.specs.TraceLaws as trace
 use Rattle.notes.specs.TraceLaws.{Cut}
 use Rattle.pair.specs.declared.sample.Outcome.{Outcome}
 use Rattle.pair.specs.declared.sample.Outcome.the-variants.{Taken, Refused}
-use Rattle.pair.specs.declared.state.Halves.{Halves}
+use Rattle.halves.specs.declared.state.Halves.{Halves}
 use Rattle.pair.specs.Sample.{answersAfter, pairSampled, pairStepped}
 use Rattle.pair.specs.SampleLaws.{sample-is-step, step-lengths}
-use Rattle.pair.specs.State.{passesBoth}
-use Rattle.pair.specs.Two.{Two}
+use Rattle.halves.specs.State.{passesBoth}
+use Rattle.halves.specs.Two.{Two}
 use Rattle.pair_runs.specs.Run.{Progress, atEnd, turn, turned, worked}
 use Rattle.pair_runs.specs.Samples.{recordsAt, samplesFrom, wholeSamples}
 use Rattle.pair_runs.specs.SamplesLaws.{end-told, samples-split}

@@ -14,7 +14,7 @@ use Rattle.fifo.specs.Sample.{isDepth}
 use Rattle.notes.specs.BeginLaws as begin
 use Rattle.notes.specs.BeginLaws.{Begins, begins}
 use Rattle.notes.specs.Fold.{ended}
-use Rattle.pair.specs.State.{passesBoth}
+use Rattle.halves.specs.State.{passesBoth}
 use Rattle.pair_runs.specs.Run.{Progress, runOf, worked}
 
 either-fails : {A B : Type 0} (a b : Bool) → (a ≡ true → A) → (b ≡ true → B) → ¬ (A × B) → a && b ≡ false

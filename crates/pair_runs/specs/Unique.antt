@@ -3,8 +3,8 @@ use Prim.Native.Nat.{ℕ}
 use mathlib.Core.List.{List}
 use mathlib.Core.Path.{_≡_}
 use Rattle.notes.specs.Unique as notes
-use Rattle.pair.specs.declared.state.Halves.{Halves}
-use Rattle.pair.specs.Two.{Two}
+use Rattle.halves.specs.declared.state.Halves.{Halves}
+use Rattle.halves.specs.Two.{Two}
 use Rattle.pair_runs.specs.declared.run.Ran.{Ran}
 use Rattle.pair_runs.specs.Run.{Runs, RunsLenient}
 
