@@ -38,6 +38,12 @@ pub same-depth : (part : Part) → wordsIn part ≡ depthOf part
 same-depth Idt72V255LA = refl
 same-depth Idt72V265LA = refl
 
+pub deep : (part : Part) (words : ℕ) → words ≡ wordsIn part → isDepth part words ≡ true
+deep part words whole = eq-eqb words (depthOf part) (whole ∙ same-depth part)
+
+pub not-deep : (part : Part) (words : ℕ) → words ≢ wordsIn part → isDepth part words ≡ false
+not-deep part words n = ne-eqb words (depthOf part) (λ e. n (e ∙ sym (same-depth part)))
+
 module _ (x : ℕ) (s : State) (words : ℕ) where
   pub one-comes : (number : ℕ) → number ≢ 255 → number ≢ 265 → sampleRefusal number x s words ≡ 1
   unfolding sampleRefusal
@@ -46,22 +52,22 @@ module _ (x : ℕ) (s : State) (words : ℕ) where
   module _ (part : Part) where
     pub two-comes : words ≢ wordsIn part → sampleRefusal (askedBy part) x s words ≡ 2
     unfolding sampleRefusal
-    two-comes n = simp (known part, ← same-depth part, ne-eqb words (wordsIn part) n)
+    two-comes n = simp (known part, not-deep part words n)
 
     module _ (whole : words ≡ wordsIn part) where
       pub three-comes : passes part s ≡ false → sampleRefusal (askedBy part) x s words ≡ 3
       unfolding sampleRefusal
-      three-comes fails = simp (known part, eq-eqb words (depthOf part) (whole ∙ same-depth part), fails)
+      three-comes fails = simp (known part, deep part words whole, fails)
 
       module _ (passed : passes part s ≡ true) where
         pub four-comes : bit 18 x ≡ true → sampleRefusal (askedBy part) x s words ≡ 4
         unfolding sampleRefusal recordRefusal
-        four-comes set = simp (known part, eq-eqb words (depthOf part) (whole ∙ same-depth part), passed, set)
+        four-comes set = simp (known part, deep part words whole, passed, set)
 
         -- 5 to 10, or 0 where the sample is taken
         pub rest-by-pins : bit 18 x ≡ false → sampleRefusal (askedBy part) x s words ≡ refusalOf part (pinsOf x) s
         unfolding sampleRefusal recordRefusal
-        rest-by-pins clear = simp (known part, eq-eqb words (depthOf part) (whole ∙ same-depth part), passed, clear)
+        rest-by-pins clear = simp (known part, deep part words whole, passed, clear)
 
 -- what comes of a number: it is the outcome's, the sample is taken with 0 alone, and with another nothing moved
 pub record Numbered (number : ℕ) (a : After) (s : State) (memory : List ℕ) : Type 0 where

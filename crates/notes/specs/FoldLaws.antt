@@ -33,6 +33,25 @@ module _ {X S M : Type 0} (lenient : Bool) (step : Stepping X S M) (last : ℕ) 
       (folded lenient step 0 xs (index + 1) (noted lenient index t g)) (folded lenient step last (xs ++ ys) (index + 1) (noted lenient index t g))
       (fold-split xs (index + 1) (noted lenient index t g) h) e
 
+-- what holds of every state on the way
+abbrev pub Along : {X S M : Type 0} → Stepping X S M → (S → Type 0) → List X → S → M → Type 0
+Along step P [] s memory = Unit {0}
+Along step P (x ∷ xs) s memory = P s × Along step P xs (step x s memory .state) (step x s memory .memory)
+
+-- steps that agree where it holds, on memories that go on to fit, give the same
+pub same-steps : {X S M : Type 0} (lenient : Bool) (step other : Stepping X S M) (P : S → Type 0) (fits : M → Type 0)
+    → ((x : X) (s : S) (memory : M) → fits memory → fits (step x s memory .memory))
+    → ((x : X) (s : S) (memory : M) → P s → fits memory → other x s memory ≡ step x s memory)
+    → (last : ℕ) (xs : List X) (index : ℕ) (g : Progress S M) → fits (g .memory) → Along step P xs (g .state) (g .memory)
+    → folded lenient step last xs index g ≡ folded lenient other last xs index g
+unfolding folded
+same-steps lenient step other P fits keeps same last [] index g f p = refl
+same-steps {S = S} {M = M} lenient step other P fits keeps same last (x ∷ xs) index g f p =
+    let t = step x (g .state) (g .memory) in
+    rw (same x (g .state) (g .memory) (p .0) f)
+    (ap (λ (rest : Ended S M). cond (stops lenient (t .number)) (ended (t .number) index g) rest)
+    (same-steps lenient step other P fits keeps same last xs (index + 1) (noted lenient index t g) (keeps x (g .state) (g .memory) f) (p .1)))
+
 -- what earlier samples left in the rooms and the count
 abbrev pub moved : {S M : Type 0} → List ℕ → List ℕ → ℕ → Progress S M → Progress S M
 moved answers marks accepted g = record {

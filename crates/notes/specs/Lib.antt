@@ -3,5 +3,6 @@ pub mod NoteLaws
 pub mod BeginLaws
 pub mod FoldLaws
 pub mod ReachLaws
+pub mod TraceLaws
 pub mod LoopLaws
 pub mod Unique

@@ -4,11 +4,10 @@ use Prim.Native.Nat.{ℕ, _/_, _^_}
 use mathlib.Core.Bool.{Bool, true, false, cond, and-false}
 use mathlib.Core.Logic.{_≢_}
 use mathlib.Core.Path.{_≡_, _∙_}
-use borrow.Author.Tests.{eq-eqb, ne-eqb}
+use borrow.Author.Tests.{ne-eqb}
 use Rattle.chip.specs.State.{passes}
 use Rattle.counts.specs.declared.part.Part.{Part}
-use Rattle.counts.specs.Part.{depthOf}
-use Rattle.fifo.specs.NumberLaws.{askedBy, known, same-depth, wordsIn}
+use Rattle.fifo.specs.NumberLaws.{askedBy, deep, known, not-deep, wordsIn}
 use Rattle.pins.specs.Record.{bit, pinsOf}
 use Rattle.refusals.specs.Refuse.{refusalOf}
 use Rattle.sides.specs.declared.read.Mode.the-variants.{Standard, Fwft}
@@ -27,17 +26,16 @@ module _ (x : Two ℕ) (h : Halves) (words : Two ℕ) where
   module _ (part : Part) where
     pub two-by-left : words .left ≢ wordsIn part → pairSampleRefusal (askedBy part) x h words ≡ 2
     unfolding pairSampleRefusal
-    two-by-left n = simp (known part, ← same-depth part, ne-eqb (words .left) (wordsIn part) n)
+    two-by-left n = simp (known part, not-deep part (words .left) n)
 
     pub two-by-right : words .right ≢ wordsIn part → pairSampleRefusal (askedBy part) x h words ≡ 2
     unfolding pairSampleRefusal
-    two-by-right n = simp (known part, ← same-depth part, ne-eqb (words .right) (wordsIn part) n, and-false)
+    two-by-right n = simp (known part, not-deep part (words .right) n, and-false)
 
     module _ (left-whole : words .left ≡ wordsIn part) (right-whole : words .right ≡ wordsIn part) where
       tested : pairSampleRefusal (askedBy part) x h words ≡ cond (passesBoth part h) (pairRefusal part x h) 3
       unfolding pairSampleRefusal
-      tested =
-          simp (known part, eq-eqb (words .left) (depthOf part) (left-whole ∙ same-depth part), eq-eqb (words .right) (depthOf part) (right-whole ∙ same-depth part))
+      tested = simp (known part, deep part (words .left) left-whole, deep part (words .right) right-whole)
 
       pub three-by-left : passes part (h .left) ≡ false → pairSampleRefusal (askedBy part) x h words ≡ 3
       unfolding passesBoth

@@ -121,9 +121,9 @@ module _ {lenient : Bool} {part : Part} {bytes : List ℕ} {start g : Progress} 
       }
 
 pub room-told : (lenient : Bool) (bytes : List ℕ) (g : Progress) (part : Part) → fitting lenient bytes g part ≡ true → wholeSamples bytes * 6 ≤ length (g .answers)
-room-told lenient bytes g part e =
-    let room = and-eq-true-iff (isDepth part (length (g .memory .left)) && isDepth part (length (g .memory .right))) _ .0 e .1 in
-    leb-true _ _ (and-eq-true-iff (leb (wholeSamples bytes * 6) (length (g .answers))) (not lenient || leb (wholeSamples bytes) (length (g .marks))) .0 room .0)
+room-told lenient bytes g =
+    begin.room-told lenient (wholeSamples bytes * 6) (wholeSamples bytes)
+    (λ p. isDepth p (length (g .memory .left)) && isDepth p (length (g .memory .right))) (λ p. passesBoth p (g .state)) (λ p. worked lenient p bytes g) g
 
 module _ (lenient : Bool) (number : ℕ) (bytes : List ℕ) (g : Progress) {looked : Lookup} (l : looked ≡ partOf number) where
   pub run-unknown : looked ≡ Unknown → runOf lenient number bytes g ≡ ended 1 0 g

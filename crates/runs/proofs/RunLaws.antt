@@ -99,9 +99,9 @@ module _ {lenient : Bool} {part : Part} {bytes : List ℕ} {start g : Progress} 
     }
 
 pub room-told : (lenient : Bool) (bytes : List ℕ) (g : Progress) (part : Part) → fitting lenient bytes g part ≡ true → wholeRecords bytes * 3 ≤ length (g .answers)
-room-told lenient bytes g part e =
-    let room = and-eq-true-iff (isDepth part (length (g .memory))) _ .0 e .1 in
-    leb-true _ _ (and-eq-true-iff (leb (wholeRecords bytes * 3) (length (g .answers))) (not lenient || leb (wholeRecords bytes) (length (g .marks))) .0 room .0)
+room-told lenient bytes g =
+    begin.room-told lenient (wholeRecords bytes * 3) (wholeRecords bytes) (λ p. isDepth p (length (g .memory))) (λ p. passes p (g .state))
+    (λ p. worked lenient p bytes g) g
 
 module _ (lenient : Bool) (number : ℕ) (bytes : List ℕ) (g : Progress) {looked : Lookup} (l : looked ≡ partOf number) where
   pub run-unknown : looked ≡ Unknown → runOf lenient number bytes g ≡ ended 1 0 g

@@ -1,63 +1,48 @@
 -- A trace may be worked in parts, and, as long as every state on the way passes 3, sample by sample.
-use Prim.Native.Nat.{ℕ, _+_, _*_, _%_}
-use mathlib.Core.Bool.{Bool, true, cond}
-use mathlib.Core.List.{List, [], _∷_, _++_}
-use mathlib.Core.Path.{_≡_, refl, sym, ap, _∙_}
-use lib.ListN.{length, length-append}
-use native.Mathlib.Nat.{zero-add}
+use Prim.Native.Nat.{ℕ, _+_, _*_}
+use mathlib.Core.Bool.{Bool, true}
+use mathlib.Core.List.{List, _++_}
+use mathlib.Core.Path.{_≡_, refl, ap, _∙_}
+use lib.ListN.{length}
 use native.Mathlib.Omega.{arith}
 use Rattle.chip.specs.declared.state.State.{State}
 use Rattle.chip.specs.State.{passes}
 use Rattle.counts.specs.declared.part.Lookup.the-variants.{Known}
 use Rattle.counts.specs.declared.part.Part.{Part}
 use Rattle.counts.specs.Part.{partOf}
-use Rattle.pins.specs.Trace.{recordsFrom, wholeRecords}
-use Rattle.pins.specs.TraceLaws.{end-told, records-length, records-split}
 use Rattle.fifo.specs.declared.sample.Outcome.{Outcome}
 use Rattle.fifo.specs.declared.sample.Outcome.the-variants.{Taken, Refused}
 use Rattle.fifo.specs.Sample.{answersAfter, isDepth, sampled, stepped}
 use Rattle.fifo.specs.SampleLaws.{sample-is-step, step-length}
-use Rattle.notes.specs.Fold.{ended, folded, noted, stops}
-use Rattle.notes.specs.FoldLaws.{fold-moved, fold-split, moved, movedEnd, put-after}
-use Rattle.runs.specs.Run.{Ended, Progress, atEnd, turn, turned, worked}
+use Rattle.notes.specs.Fold.{ended, folded}
+use Rattle.notes.specs.FoldLaws.{Along, fold-moved, moved, movedEnd, put-after, same-steps}
+use Rattle.notes.specs.TraceLaws as trace
+use Rattle.notes.specs.TraceLaws.{Cut}
+use Rattle.pins.specs.Trace.{recordsFrom, wholeRecords, wordAt}
+use Rattle.pins.specs.TraceLaws.{end-told, records-split}
+use Rattle.runs.specs.Run.{Progress, atEnd, turn, turned, worked}
 
 -- every state on the way passes 3
-abbrev pub Passing : Bool → Part → List ℕ → ℕ → Progress → Type 0
-Passing lenient part [] index g = Unit {0}
-Passing lenient part (x ∷ xs) index g =
-    (passes part (g .state) ≡ true) × Passing lenient part xs (index + 1) (noted lenient index (turned part x (g .state) (g .memory)) g)
+abbrev pub Passing : Part → List ℕ → State → List ℕ → Type 0
+Passing part = Along (turned part) (λ s. passes part s ≡ true)
 
 pub sample-by-sample : (lenient : Bool) (number : ℕ) (part : Part) → partOf number ≡ Known part → (last : ℕ) (xs : List ℕ) (index : ℕ) (g : Progress)
-    → isDepth part (length (g .memory)) ≡ true → Passing lenient part xs index g
+    → isDepth part (length (g .memory)) ≡ true → Passing part xs (g .state) (g .memory)
     → folded lenient (turned part) last xs index g ≡ folded lenient (λ x s memory. turn (sampled number x s memory)) last xs index g
-unfolding folded
-sample-by-sample lenient number part k last [] index g d p = refl
-sample-by-sample lenient number part k last (x ∷ xs) index g d p =
-    let t = turned part x (g .state) (g .memory) in
-    rw (sample-is-step number x (g .state) (g .memory) part k d (p .0))
-    (ap (λ (rest : Ended). cond (stops lenient (t .number)) (ended (t .number) index g) rest)
-    (sample-by-sample lenient number part k last xs (index + 1) (noted lenient index t g)
-    (rw (step-length part x (g .state) (g .memory)) d) (p .1)))
+sample-by-sample lenient number part k =
+    same-steps lenient (turned part) (λ x s memory. turn (sampled number x s memory)) (λ s. passes part s ≡ true) (λ memory. isDepth part (length memory) ≡ true)
+    (λ x s memory d. rw (step-length part x s memory) d) (λ x s memory p d. ap turn (sample-is-step number x s memory part k d p))
+
+-- the records of a trace, four bytes each
+pub records-cut : Cut 4 (λ bytes index. wordAt bytes (index * 4)) atEnd
+records-cut = record { some = omega arith; ends = end-told; split = records-split }
 
 -- a trace in two parts, split at a whole record and the first taken whole
 pub work-split : (lenient : Bool) (part : Part) (u v : List ℕ) (whole : ℕ) → length u ≡ whole * 4 → (g h : Progress)
     → worked lenient part u g ≡ ended 0 whole h
     → worked lenient part (u ++ v) g ≡ folded lenient (turned part) (atEnd v) (recordsFrom v 0 (wholeRecords v)) whole h
 unfolding worked
-work-split lenient part u v whole e g h taken =
-    let long = length-append u v in
-    let both : wholeRecords (u ++ v) ≡ whole + wholeRecords v = omega arith in
-    let first : wholeRecords u ≡ whole = omega arith in
-    let rest : length (u ++ v) % 4 ≡ length v % 4 = omega arith in
-    let clean : length u % 4 ≡ 0 = omega arith in
-    let ends : atEnd (u ++ v) ≡ atEnd v = end-told (u ++ v) ∙ rw rest (sym (end-told v)) in
-    let none : atEnd u ≡ 0 = end-told u ∙ rw clean refl in
-    let many : 0 + length (recordsFrom u 0 whole) ≡ whole = zero-add (length (recordsFrom u 0 whole)) ∙ records-length u 0 whole in
-    let start : folded lenient (turned part) 0 (recordsFrom u 0 whole) 0 g ≡ ended 0 (0 + length (recordsFrom u 0 whole)) h =
-    rw many (rw (none, first) at taken) in
-    rw (ends, both, records-split u v whole e (wholeRecords v))
-    (fold-split lenient (turned part) (atEnd v) (recordsFrom v 0 (wholeRecords v)) (recordsFrom u 0 whole) 0 g h start
-    ∙ ap (λ (i : ℕ). folded lenient (turned part) (atEnd v) (recordsFrom v 0 (wholeRecords v)) i h) many)
+work-split lenient part u v whole e = trace.work-split records-cut (turned part) u v whole e lenient
 
 -- and the rest is what it would be by itself, with index, count and rooms moved on
 answers-after : (before : List ℕ) (many : ℕ) → length before ≡ many * 3 → (outcome : Outcome) (index : ℕ) (room : List ℕ)

@@ -1,0 +1,18 @@
+-- What counts as an answer proved: two outcomes that meet a run's promise are the same in result, in both memories and in every room lent.
+use Prim.Native.Nat.{ℕ}
+use mathlib.Core.List.{List}
+use mathlib.Core.Path.{_≡_}
+use Rattle.notes.specs.Unique as notes
+use Rattle.halves.specs.declared.state.Halves.{Halves}
+use Rattle.halves.specs.Two.{Two}
+use Rattle.pair_runs.specs.declared.run.Ran.{Ran}
+use Rattle.pair_runs.specs.Run.{Runs, RunsLenient}
+
+pub run-unique : (number : ℕ) (bytes : List ℕ) (h : Halves) (memory : Two (List ℕ)) (answers : List ℕ) (a b : Ran) (m n : Two (List ℕ)) (k l : List ℕ)
+    → Runs number bytes h memory answers a m k → Runs number bytes h memory answers b n l → (a ≡ b) × (m ≡ n) × (k ≡ l)
+run-unique number bytes h memory answers a b m n k l = notes.strict-unique
+
+pub lenient-unique : (number : ℕ) (bytes : List ℕ) (h : Halves) (memory : Two (List ℕ)) (answers marks : List ℕ) (a b : Ran) (m n : Two (List ℕ)) (k l i j : List ℕ)
+    → RunsLenient number bytes h memory answers marks a m k i → RunsLenient number bytes h memory answers marks b n l j
+    → (a ≡ b) × (m ≡ n) × (k ≡ l) × (i ≡ j)
+lenient-unique number bytes h memory answers marks a b m n k l i j = notes.ends-unique
