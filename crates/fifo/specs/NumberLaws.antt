@@ -19,7 +19,8 @@ use Rattle.counts.specs.declared.part.Part.the-variants.{Idt72V255LA, Idt72V265
 use Rattle.counts.specs.Part.{byPart, depthOf, partOf}
 use Rattle.pins.specs.Record.{bit, pinsOf}
 use Rattle.refusals.specs.Refuse.{refusalOf}
-use Rattle.fifo.specs.Sample.{After, fetchedFor, isDepth, isTaken, numberOf, recordRefusal, sampled, sampleRefusal, stepped, taken, took, turnedAway}
+use Rattle.fifo.specs.declared.sample.Outcome.the-variants.{Refused}
+use Rattle.fifo.specs.Sample.{After, answersAfter, fetchedFor, isDepth, isTaken, numberOf, recordRefusal, sampled, sampleRefusal, stepped, taken, took, turnedAway}
 
 -- Parts and paper authority: each part's number, and its depth
 abbrev pub askedBy : Part → ℕ
@@ -105,3 +106,7 @@ module _ (s : State) (memory : List ℕ) where
     pub sample-numbered : (number : ℕ) → Numbered (sampleRefusal number x s (length memory)) (sampled number x s memory) s memory
     unfolding sampled sampleRefusal
     sample-numbered number = by-part (partOf number)
+
+-- a refused sample writes no answer
+pub none-written : (number index : ℕ) (room : List ℕ) → answersAfter (Refused number) index room ≡ room
+none-written number index room = refl
