@@ -13,8 +13,9 @@ use Rattle.notes.specs.Fold.{started}
 use Rattle.pair.specs.declared.sample.Outcome.the-variants.{Taken}
 use Rattle.pair.specs.Sample as pair
 use Rattle.halves.specs.Two.{Two}
-use Rattle.pair_runs.specs.Run.{Ended, runOf}
-use Rattle.pair_runs.specs.Samples.{samplesFrom, wholeSamples}
+use Rattle.pair_runs.specs.Run.{runOf}
+use Rattle.pair_work.specs.Samples.{samplesFrom, wholeSamples}
+use Rattle.pair_work.specs.Work.{Ended}
 use Rattle.pins.specs.Record.{pinsOf}
 use Rattle.history.specs.Asked.{ShowsWord}
 use Rattle.history.specs.Crossing.{crossedLed, uncrossed}

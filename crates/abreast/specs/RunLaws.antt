@@ -15,11 +15,12 @@ use Rattle.notes.specs.ReachLaws.{Follows, cond-either, fold-follows, fold-numb
 use Rattle.halves.specs.declared.state.Halves.{Halves}
 use Rattle.pair.specs.Sample.{After}
 use Rattle.halves.specs.Two.{Two}
-use Rattle.pair_runs.specs.declared.samples.Sample.{Sample}
-use Rattle.pair_runs.specs.declared.samples.Sample.the-variants.{Whole, Leftover, End}
-use Rattle.pair_runs.specs.Run.{Ended, Progress, atEnd, fitting, runOf, turned, worked}
-use Rattle.pair_runs.specs.Samples as samples
-use Rattle.pair_runs.specs.Samples.{sampleAt, samplesFrom, wholeSamples}
+use Rattle.pair_runs.specs.Run.{fitting, runOf}
+use Rattle.pair_work.specs.declared.samples.Sample.{Sample}
+use Rattle.pair_work.specs.declared.samples.Sample.the-variants.{Whole, Leftover, End}
+use Rattle.pair_work.specs.Samples as samples
+use Rattle.pair_work.specs.Samples.{sampleAt, samplesFrom, wholeSamples}
+use Rattle.pair_work.specs.Work.{Ended, Progress, atEnd, turned, worked}
 use Rattle.abreast.specs.Abreast.{Records}
 use Rattle.abreast.specs.Pairing.{Pairing, halvesOf, memoriesOf, pairLed, pairNext}
 use Rattle.abreast.specs.PairingLaws.{Paired, pair-steps, paired-next, passes-test, step-not-three}

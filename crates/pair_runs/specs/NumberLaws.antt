@@ -15,7 +15,8 @@ use Rattle.notes.specs.BeginLaws as begin
 use Rattle.notes.specs.BeginLaws.{Begins, begins}
 use Rattle.notes.specs.Fold.{ended}
 use Rattle.halves.specs.State.{passesBoth}
-use Rattle.pair_runs.specs.Run.{Progress, runOf, worked}
+use Rattle.pair_work.specs.Work.{Progress, worked}
+use Rattle.pair_runs.specs.Run.{runOf}
 
 either-fails : {A B : Type 0} (a b : Bool) → (a ≡ true → A) → (b ≡ true → B) → ¬ (A × B) → a && b ≡ false
 either-fails true true f g n = absurd (n (f refl, g refl))

@@ -5,7 +5,7 @@ use mathlib.Core.Path.{_≡_}
 use Rattle.notes.specs.Unique as notes
 use Rattle.halves.specs.declared.state.Halves.{Halves}
 use Rattle.halves.specs.Two.{Two}
-use Rattle.pair_runs.specs.declared.run.Ran.{Ran}
+use Rattle.pair_work.specs.declared.work.Ran.{Ran}
 use Rattle.pair_runs.specs.Run.{Runs, RunsLenient}
 
 pub run-unique : (number : ℕ) (bytes : List ℕ) (h : Halves) (memory : Two (List ℕ)) (answers : List ℕ) (a b : Ran) (m n : Two (List ℕ)) (k l : List ℕ)

@@ -7,6 +7,7 @@ use Rattle.notes.specs.Fold.{Ended, EndsStrict, started}
 use Rattle.halves.specs.State.{poweredUpBoth}
 use Rattle.halves.specs.Two.{Two}
 use Rattle.pair_runs.specs.Run as pair
+use Rattle.pair_work.specs.Work as pair-work
 use Rattle.runs.specs.Run as single
 
 abbrev pub indexOf : {S M : Type 0} → Ended S M → ℕ
@@ -18,7 +19,7 @@ fromPowerUp number bytes memory answers = single.runOf false number bytes (start
 abbrev pub RunsFromPowerUp : ℕ → List ℕ → List ℕ → List ℕ → ℕ → List ℕ → List ℕ → Type 0
 RunsFromPowerUp number bytes memory answers = EndsStrict indexOf (fromPowerUp number bytes memory answers)
 
-abbrev pub pairFromPowerUp : ℕ → List ℕ → Two (List ℕ) → List ℕ → pair.Ended
+abbrev pub pairFromPowerUp : ℕ → List ℕ → Two (List ℕ) → List ℕ → pair-work.Ended
 pairFromPowerUp number bytes memory answers = pair.runOf false number bytes (started poweredUpBoth memory answers [])
 
 abbrev pub PairRunsFromPowerUp : ℕ → List ℕ → Two (List ℕ) → List ℕ → ℕ → Two (List ℕ) → List ℕ → Type 0

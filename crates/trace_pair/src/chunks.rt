@@ -7,7 +7,7 @@ use lines::records;
 use lines::records::Layout;
 use lines::tally;
 use lines::tally::Tally;
-use pair_runs::run::Ran;
+use pair_work::work::Ran;
 
 const CHUNK: usize = RECORDS * 8;
 

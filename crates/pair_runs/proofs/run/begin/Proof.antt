@@ -18,8 +18,8 @@ returns c =
     (looked .look-up .ensures) (c .before .enum-told .given .1))
     (c .end-at .ensures)
 
-go-requires : tie.Need-go-requires
-go-requires c κs =
+work-requires : tie.Need-work-requires
+work-requires c κs =
     let tested = c .before .before .before .before .before in
     let roomy = c .before .before .before .before .before .before .before in
     let sized = roomy .before in
@@ -44,7 +44,7 @@ returns-2 c =
     (looked .look-up .ensures) _ (c .before .before .before .before .before .before .before .before .before .before .before .before .before .before .before .before .before .before .before .looked-up .given .1)
     (sym (cc (sized .are-depth .ensures, roomy .is-roomy .ensures)) ∙ tested .before .if1 .taken)
     (sym (tested .passes-test .ensures) ∙ c .before .before .before .before .before .before .before .before .before .before .before .before .before .if2 .taken))
-    (c .before .before .before .before .before .before .before .before .go .ensures)
+    (c .before .before .before .before .before .before .before .before .work .ensures)
 
 returns-3 : tie.Need-returns-3
 returns-3 c =
@@ -85,7 +85,7 @@ begin-spec =
     (λ c. search needs)
     (λ c κs. search needs)
     (λ c κs. search needs)
-    go-requires
+    work-requires
     (λ c κs. search needs)
     (λ c κs. search needs)
     (λ c. search needs)

@@ -1,13 +1,13 @@
 use Prim.Native.Nat.{ℕ}
 use mathlib.Core.List.{List}
 use mathlib.Core.Path.{_≡_, ap, _∙_}
-use Rattle.pair_runs.specs.declared.samples.Sample.{Sample}
-use Rattle.pair_runs.specs.Samples.{Reads, numberOf, sampleAt}
-use Rattle.pair_runs.specs.SamplesLaws.{number-told}
+use Rattle.pair_work.specs.declared.samples.Sample.{Sample}
+use Rattle.pair_work.specs.Samples.{Reads, numberOf, sampleAt}
+use Rattle.pair_work.specs.SamplesLaws.{number-told}
 use borrow.Author.Tests.{eq-eqb, le-ltb, lt-ltb, ne-eqb}
 use borrow.Author.Needs.{needs}
-use Rattle.pair_runs.proofs.samples.sample_at.Statement.{statement}
-use Rattle.pair_runs.proofs.samples.sample_at.Tie as tie
+use Rattle.pair_work.proofs.samples.sample_at.Statement.{statement}
+use Rattle.pair_work.proofs.samples.sample_at.Tie as tie
 
 reads-by : {trace : List ℕ} {index : ℕ} {r : Sample} → r ≡ sampleAt trace index → Reads trace index r
 reads-by e = record { number = ap numberOf e ∙ number-told _ _; result = e }

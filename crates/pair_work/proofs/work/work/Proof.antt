@@ -5,11 +5,11 @@ use borrow.Author.Needs.{needs}
 use native.Mathlib.Omega.{arith}
 use Rattle.notes.specs.Fold.{started}
 use Rattle.halves.specs.Two.{two}
-use Rattle.pair_runs.specs.Samples.{wholeSamples}
-use Rattle.pair_runs.specs.SamplesLaws.{whole-below}
-use Rattle.pair_runs.proofs.RunLaws.{Going, both-wide, each-wide, ended-now, going, no-whole, stopped-now, turned-now, words-kept}
-use Rattle.pair_runs.proofs.run.go.Statement.{statement}
-use Rattle.pair_runs.proofs.run.go.Tie as tie
+use Rattle.pair_work.specs.Samples.{wholeSamples}
+use Rattle.pair_work.specs.SamplesLaws.{whole-below}
+use Rattle.pair_work.proofs.WorkLaws.{Going, both-wide, each-wide, ended-now, going, no-whole, stopped-now, turned-now, words-kept}
+use Rattle.pair_work.proofs.work.work.Statement.{statement}
+use Rattle.pair_work.proofs.work.work.Tie as tie
 
 abbrev Inv-loop : tie.InvT-loop
 Inv-loop lenient part trace left₀ right₀ answers₀ marks₀ s₀ accepted₀ index₀ left right answers marks s accepted index =
@@ -92,8 +92,8 @@ loop-again c =
     turned-now (told .before .loop .inv) (told .sample-at .ensures .result) (c .before .before .before .before .before .before .before .before .before .before .before .before .before .before .before .before .before .before .before .before .before .sample .given .1) (c .before .before .before .before .before .before .before .before .before .before .before .before .before .before .before .before .before .step .ensures .gives) (c .before .before .before .before .before .before .before .before .before .before .before .number-of .ensures)
     (c .before .before .before .before .before .before .before .before .before .before .is-stop .ensures) (c .before .before .before .before .before .before .before .before .before .if1 .left) (c .before .before .before .before .before .before .before .note-answers .ensures) (c .before .before .before .note-mark .ensures) (c .count .ensures)
 
-pub go-spec : {M : Type 1} → statement M
-go-spec =
+pub work-spec : {M : Type 1} → statement M
+work-spec =
     tie.close
     (tie.spec
     Inv-loop

@@ -10,9 +10,9 @@ use native.Mathlib.Omega.{arith}
 use Rattle.halves.specs.Two.{Two, two}
 use Rattle.pins.specs.Trace.{numberAt, wordAt}
 use Rattle.pins.specs.TraceLaws.{items-split, past-all, standing-number, standing-whole, word-first, word-second}
-use Rattle.pair_runs.specs.declared.samples.Sample.{Sample}
-use Rattle.pair_runs.specs.declared.samples.Sample.the-variants.{Whole, Leftover, End}
-use Rattle.pair_runs.specs.Samples.{Reads, numberOf, recordsAt, sampleAt, samplesFrom, wholeSamples}
+use Rattle.pair_work.specs.declared.samples.Sample.{Sample}
+use Rattle.pair_work.specs.declared.samples.Sample.the-variants.{Whole, Leftover, End}
+use Rattle.pair_work.specs.Samples.{Reads, numberOf, recordsAt, sampleAt, samplesFrom, wholeSamples}
 
 abbrev pub isWhole : Sample → Bool
 isWhole (Whole left right) = true

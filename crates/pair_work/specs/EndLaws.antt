@@ -18,8 +18,8 @@ use Rattle.pair.specs.SampleLaws.{step-numbered}
 use Rattle.halves.specs.Two.{two}
 use Rattle.pins.specs.Answer.{putAnswer}
 use Rattle.pins.specs.Trace.{wordAt}
-use Rattle.pair_runs.specs.FoldLaws.{samples-cut}
-use Rattle.pair_runs.specs.Run.{Ended, Progress, turn, turned, worked}
+use Rattle.pair_work.specs.FoldLaws.{samples-cut}
+use Rattle.pair_work.specs.Work.{Ended, Progress, turn, turned, worked}
 
 abbrev pub Ending : Bool → Part → List ℕ → ℕ → Ended → Type 0
 Ending lenient part bytes =

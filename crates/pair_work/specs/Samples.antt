@@ -5,8 +5,8 @@ use mathlib.Core.Path.{_≡_}
 use lib.ListN.{length}
 use Rattle.halves.specs.Two.{Two, two}
 use Rattle.pins.specs.Trace.{itemsFrom, numberAt, standing, wordAt}
-use Rattle.pair_runs.specs.declared.samples.Sample.{Sample}
-use Rattle.pair_runs.specs.declared.samples.Sample.the-variants.{Whole, Leftover, End}
+use Rattle.pair_work.specs.declared.samples.Sample.{Sample}
+use Rattle.pair_work.specs.declared.samples.Sample.the-variants.{Whole, Leftover, End}
 
 -- eight bytes, the left record and then the right one
 abbrev pub recordsAt : List ℕ → ℕ → Two ℕ

@@ -20,9 +20,9 @@ use Rattle.pair.specs.Sample.{answersAfter, pairSampled, pairStepped}
 use Rattle.pair.specs.SampleLaws.{sample-is-step, step-lengths}
 use Rattle.halves.specs.State.{passesBoth}
 use Rattle.halves.specs.Two.{Two}
-use Rattle.pair_runs.specs.Run.{Progress, atEnd, turn, turned, worked}
-use Rattle.pair_runs.specs.Samples.{recordsAt, samplesFrom, wholeSamples}
-use Rattle.pair_runs.specs.SamplesLaws.{end-told, samples-split}
+use Rattle.pair_work.specs.Work.{Progress, atEnd, turn, turned, worked}
+use Rattle.pair_work.specs.Samples.{recordsAt, samplesFrom, wholeSamples}
+use Rattle.pair_work.specs.SamplesLaws.{end-told, samples-split}
 
 -- every state on the way passes 3
 abbrev pub Passing : Part → List (Two ℕ) → Halves → Two (List ℕ) → Type 0

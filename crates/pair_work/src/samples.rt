@@ -1,5 +1,5 @@
 // Two parts side by side, on bytes: one sample of a trace at a time, the left record and then the right one.
-ghost use Rattle.pair_runs.specs.Samples.{Reads};
+ghost use Rattle.pair_work.specs.Samples.{Reads};
 
 // What stands at an index of a trace: a whole sample, the bytes left over after the last one, or nothing more.
 pub enum Sample {
