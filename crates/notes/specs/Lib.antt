@@ -4,4 +4,5 @@ pub mod BeginLaws
 pub mod FoldLaws
 pub mod ReachLaws
 pub mod LoopLaws
+pub mod Began
 pub mod Unique
