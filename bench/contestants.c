@@ -1,6 +1,7 @@
 #include "contestants.h"
 
 #include "fifo.h"
+#include "pair_c.h"
 #include "run_c.h"
 
 static size_t work_by_c_call(const struct job *job, size_t records)

@@ -9,8 +9,4 @@
 size_t fifo_run(uint32_t part, const uint8_t *trace, size_t trace_length, uint32_t *memory, size_t words,
                 uint8_t *answers, size_t answers_length);
 
-// The same for a pair: samples of two records, and of two answers.
-size_t pair_run(uint32_t part, const uint8_t *trace, size_t trace_length, uint32_t *left_memory, size_t left_words,
-                uint32_t *right_memory, size_t right_words, uint8_t *answers, size_t answers_length);
-
 #endif

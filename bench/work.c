@@ -1,4 +1,6 @@
-// work MODEL RECORDS: works the first records of some swept traffic by one model, for a count of its instructions.
+// work MODEL RECORDS: works the first records of some swept traffic by one model, for a count of its instructions. The
+// pair's run works as many samples.
+#include "halves.h"
 #include "timing.h"
 
 #include <stdio.h>
@@ -13,7 +15,7 @@ static const struct model *model_named(const char *name)
     for (int i = 0; i < MODELS; i++)
         if (strcmp(name, models[i]->name) == 0)
             return models[i];
-    return NULL;
+    return strcmp(name, by_pair_run.name) == 0 ? &by_pair_run : NULL;
 }
 
 int main(int count, char **arguments)
@@ -25,6 +27,8 @@ int main(int count, char **arguments)
         return 2;
     }
     struct job job = new_job(TRAFFIC_RECORDS, 1);
+    struct job pair = new_job(TRAFFIC_RECORDS, 2);
     put_trace(&job, 255, TRAFFIC_SWEPT, TRAFFIC_RECORDS);
-    return model->work(&job, records) == records ? 0 : 1;
+    put_halves(&pair, &job, TRAFFIC_RECORDS);
+    return model->work(model == &by_pair_run ? &pair : &job, records) == records ? 0 : 1;
 }

@@ -5,4 +5,5 @@ pub mod FoldLaws
 pub mod ReachLaws
 pub mod TraceLaws
 pub mod LoopLaws
+pub mod Began
 pub mod Unique

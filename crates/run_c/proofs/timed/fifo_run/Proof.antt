@@ -3,10 +3,10 @@ use mathlib.Core.Bool.{false}
 use mathlib.Core.List.{[]}
 use borrow.Author.Needs.{needs}
 use Rattle.chip.specs.declared.state.State.{State}
+use Rattle.notes.specs.Began.{began}
 use Rattle.notes.specs.Fold.{started}
 use Rattle.runs.specs.declared.run.Ran.{Ran}
 use Rattle.runs.specs.Run.{runOf}
-use Rattle.run_c.proofs.Began.{began}
 use Rattle.run_c.proofs.timed.fifo_run.Statement.{statement}
 use Rattle.run_c.proofs.timed.fifo_run.Tie as tie
 

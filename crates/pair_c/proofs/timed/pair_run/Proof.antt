@@ -2,14 +2,14 @@ use denote.Ref.{now}
 use mathlib.Core.Bool.{false}
 use mathlib.Core.List.{[]}
 use borrow.Author.Needs.{needs}
+use Rattle.notes.specs.Began.{began}
 use Rattle.notes.specs.Fold.{started}
 use Rattle.halves.specs.declared.state.Halves.{Halves}
 use Rattle.halves.specs.Two.{two}
 use Rattle.pair_runs.specs.Run.{runOf}
 use Rattle.pair_work.specs.declared.work.Ran.{Ran}
-use Rattle.run_c.proofs.Began.{began}
-use Rattle.run_c.proofs.timed.pair_run.Statement.{statement}
-use Rattle.run_c.proofs.timed.pair_run.Tie as tie
+use Rattle.pair_c.proofs.timed.pair_run.Statement.{statement}
+use Rattle.pair_c.proofs.timed.pair_run.Tie as tie
 
 returns : tie.Need-returns
 returns c =
