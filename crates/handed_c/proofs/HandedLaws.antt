@@ -10,7 +10,7 @@ use native.Mathlib.Omega.{arith}
 use Rattle.chip.specs.declared.state.State.{State}
 use Rattle.runs.specs.declared.run.Ran.{Ran}
 use Rattle.runs.specs.Run as runs
-use Rattle.notes.specs.Fold.{started}
+use Rattle.notes.specs.Fold.{EndsStrict, started}
 use Rattle.runs.specs.Run.{ranOf, runOf}
 use Rattle.spelling.specs.Spelling.{spells, stateBytes, stateIn}
 use Rattle.handed_c.specs.Handed.{Hands, HandsBack, RunsLenient, RunsStrict, endedSize, ranHanded, sound}
@@ -37,21 +37,23 @@ module _ (number : ℕ) (bytes state memory answers ended : List ℕ) {told : Bo
 
   module _ {s : State} {ran : Ran} {r : ℕ} {state′ memory′ answers′ ended′ : List ℕ} (holds : told ≡ true) (read : s ≡ stateIn state)
       (back : HandsBack ran state′ ended′) (code : r ≡ ran .refusal) where
-    run-handed : (lenient : Bool) (marks : List ℕ) → let expected = runOf lenient number bytes (started s memory answers marks) in
-        ran ≡ ranOf expected → memory′ ≡ expected .progress .memory → answers′ ≡ expected .progress .answers
+    run-handed : (lenient : Bool) (marks : List ℕ)
+        → EndsStrict ranOf (runOf lenient number bytes (started s memory answers marks)) ran memory′ answers′
         → Hands (ranHanded lenient number bytes state memory answers marks ended) r state′ memory′ answers′ ended′
     unfolding ranHanded
-    run-handed lenient marks f g h =
-        rw (← e, holds, ← read) (record { result = code ∙ rw f refl; spelled = back .spelled ∙ rw f refl; words = g; room = h; told = back .told ∙ rw f refl })
+    run-handed lenient marks h =
+        let f = h .result in
+        rw (← e, holds, ← read)
+        (record { result = code ∙ rw f refl; spelled = back .spelled ∙ rw f refl; words = h .words; room = h .room; told = back .told ∙ rw f refl })
 
     pub strict-runs : runs.Runs number bytes s memory answers ran memory′ answers′
         → RunsStrict number bytes state memory answers ended r state′ memory′ answers′ ended′
-    strict-runs h = run-handed false [] (h .result) (h .words) (h .room)
+    strict-runs = run-handed false []
 
     pub lenient-runs : (marks : List ℕ) {marks′ : List ℕ} → runs.RunsLenient number bytes s memory answers marks ran memory′ answers′ marks′
         → RunsLenient number bytes state memory answers marks ended r state′ memory′ answers′ marks′ ended′
     unfolding ranHanded
-    lenient-runs marks h = record { hands = run-handed true marks (h .result) (h .words) (h .room); marked = rw (← e, holds, ← read) (h .marked) }
+    lenient-runs marks h = record { hands = run-handed true marks (h .strict); marked = rw (← e, holds, ← read) (h .marked) }
 
   pub strict-none : told ≡ false → RunsStrict number bytes state memory answers ended 3 state memory answers ended
   strict-none = nothing-run false []

@@ -77,15 +77,13 @@ unfoldable pub begun : {S M : Type 0} → ℕ → (Part → Bool) → (Part → 
 begun number fits passes worked g =
     byPart (partOf number) (λ part. cond (fits part) (cond (passes part) (worked part) (ended 3 0 g)) (ended 2 0 g)) (ended 1 0 g)
 
--- a result, memory and rooms that are those of a definition; `ran` is what a run hands back of its end
-pub record Ends {S M R : Type 0} (ran : Ended S M → R) (expected : Ended S M) (r : R) (memory : M) (answers marks : List ℕ) : Type 0 where
-  pub result : r ≡ ran expected
-  pub words : memory ≡ expected .progress .memory
-  pub room : answers ≡ expected .progress .answers
-  pub marked : marks ≡ expected .progress .marks
-
--- the same of a strict run, which has no marks
+-- a result, memory and answer room that are those of a definition; `ran` is what a run hands back of its end
 pub record EndsStrict {S M R : Type 0} (ran : Ended S M → R) (expected : Ended S M) (r : R) (memory : M) (answers : List ℕ) : Type 0 where
   pub result : r ≡ ran expected
   pub words : memory ≡ expected .progress .memory
   pub room : answers ≡ expected .progress .answers
+
+-- and the marks, which a strict run has none of
+pub record Ends {S M R : Type 0} (ran : Ended S M → R) (expected : Ended S M) (r : R) (memory : M) (answers marks : List ℕ) : Type 0 where
+  pub strict : EndsStrict ran expected r memory answers
+  pub marked : marks ≡ expected .progress .marks

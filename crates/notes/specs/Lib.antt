@@ -1,4 +1,5 @@
 pub mod Fold
+pub mod Unique
 pub mod NoteLaws
 pub mod BeginLaws
 pub mod FoldLaws
@@ -6,4 +7,3 @@ pub mod ReachLaws
 pub mod TraceLaws
 pub mod LoopLaws
 pub mod Began
-pub mod Unique

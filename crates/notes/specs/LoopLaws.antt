@@ -3,7 +3,7 @@ use Prim.Native.Nat.{ℕ, _+_, _-_, _≤_, _<_}
 use mathlib.Core.Bool.{Bool, true, false, not, _&&_, true≢false}
 use mathlib.Core.List.{List}
 use mathlib.Core.Logic.{_≢_}
-use mathlib.Core.Path.{_≡_, refl, sym, ap, _∙_}
+use mathlib.Core.Path.{_≡_, refl, sym, ap, subst, _∙_}
 use lib.Dec.{eqb}
 use lib.ListN.{length}
 use borrow.Author.Tests.{eq-eqb}
@@ -27,16 +27,12 @@ stopped-number false number s none = true≢false (sym s ∙ ap not (eq-eqb numb
 
 pub ends-by : {S M R : Type 0} {ran : Ended S M → R} {a e : Ended S M} {r : R} {memory : M} {answers marks : List ℕ} → a ≡ e
     → Ends ran e r memory answers marks → Ends ran a r memory answers marks
-ends-by {S = S} {M = M} {ran = ran} e x = record {
-  result = x .result ∙ ap ran (sym e);
-  words = x .words ∙ ap (λ (a : Ended S M). a .progress .memory) (sym e);
-  room = x .room ∙ ap (λ (a : Ended S M). a .progress .answers) (sym e);
-  marked = x .marked ∙ ap (λ (a : Ended S M). a .progress .marks) (sym e);
-}
+ends-by {S = S} {M = M} {ran = ran} {r = r} {memory = memory} {answers = answers} {marks = marks} e x =
+    subst (λ (a : Ended S M). Ends ran a r memory answers marks) (sym e) x
 
 pub ends : {S M R : Type 0} {ran : Ended S M → R} {e : Ended S M} {number index : ℕ} {g : Progress S M} → e ≡ ended number index g
     → Ends ran e (ran (ended number index g)) (g .memory) (g .answers) (g .marks)
-ends e = ends-by e (record { result = refl; words = refl; room = refl; marked = refl })
+ends e = ends-by e (record { strict = record { result = refl; words = refl; room = refl }; marked = refl })
 
 -- refused before any sample
 pub turned-away : {S M R : Type 0} {ran : Ended S M → R} {e : Ended S M} {number : ℕ} {g : Progress S M} {r : R} → e ≡ ended number 0 g

@@ -9,4 +9,4 @@ module _ {S M R : Type 0} {ran : Ended S M → R} {expected : Ended S M} {a b : 
   strict-unique f g = (f .result ∙ sym (g .result), f .words ∙ sym (g .words), f .room ∙ sym (g .room))
 
   pub ends-unique : {i j : List ℕ} → Ends ran expected a m k i → Ends ran expected b n l j → (a ≡ b) × (m ≡ n) × (k ≡ l) × (i ≡ j)
-  ends-unique f g = (f .result ∙ sym (g .result), f .words ∙ sym (g .words), f .room ∙ sym (g .room), f .marked ∙ sym (g .marked))
+  ends-unique f g = let same = strict-unique (f .strict) (g .strict) in (same .0, same .1, same .2, f .marked ∙ sym (g .marked))
