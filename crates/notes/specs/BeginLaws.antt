@@ -41,6 +41,14 @@ marks-fit : (lenient : Bool) (whole marks : ℕ) → (lenient ≡ true → whole
 marks-fit true whole marks h = le-leb whole marks (h refl)
 marks-fit false whole marks h = refl
 
+-- a memory that is sized and rooms that suffice, told one by one
+pub both-told : {a b sized roomed is : Bool} → a ≡ sized → b ≡ roomed → a && b ≡ is → sized && roomed ≡ is
+both-told e f h = rw (← e, ← f) h
+
+pub room-told : (sized lenient : Bool) (bytes whole answers marks : ℕ) → sized && roomy lenient bytes whole answers marks ≡ true → bytes ≤ answers
+room-told sized lenient bytes whole answers marks e =
+    leb-true _ _ (both (leb bytes answers) (not lenient || leb whole marks) (both sized (roomy lenient bytes whole answers marks) e .1) .0)
+
 -- how a run begins for a part that is known: 2 by its memory or by a room, 3 by its state, and else its samples
 pub record Begins {S M : Type 0} (lenient : Bool) (Sized : Type 0) (bytes whole : ℕ) (passes : Bool) (e worked : Ended S M) (g : Progress S M) : Type 0 where
   pub twoByMemory : ¬ Sized → e ≡ ended 2 0 g
@@ -50,13 +58,8 @@ pub record Begins {S M : Type 0} (lenient : Bool) (Sized : Type 0) (bytes whole 
   pub works : Sized → bytes ≤ length (g .answers) → (lenient ≡ true → whole ≤ length (g .marks)) → passes ≡ true → e ≡ worked
 
 module _ {S M : Type 0} (lenient : Bool) (bytes whole : ℕ) (sized passes : Part → Bool) (worked : Part → Ended S M) (g : Progress S M) where
-  abbrev pub fits : Part → Bool
+  abbrev fits : Part → Bool
   fits part = sized part && roomy lenient bytes whole (length (g .answers)) (length (g .marks))
-
-  pub room-told : (part : Part) → fits part ≡ true → bytes ≤ length (g .answers)
-  room-told part e =
-      let room = both (sized part) (roomy lenient bytes whole (length (g .answers)) (length (g .marks))) e .1 in
-      leb-true _ _ (both (leb bytes (length (g .answers))) (not lenient || leb whole (length (g .marks))) room .0)
 
   pub begins : (number : ℕ) (part : Part) → partOf number ≡ Known part → {Sized : Type 0} → (Sized → sized part ≡ true) → (¬ Sized → sized part ≡ false)
       → Begins lenient Sized bytes whole (passes part) (begun number fits passes worked g) (worked part) g

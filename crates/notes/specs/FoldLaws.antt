@@ -8,7 +8,7 @@ use lib.ListN.{length, set}
 use native.Mathlib.Nat.{add-zero, suc-add, zero-add}
 use native.Mathlib.Omega.{arith}
 use Rattle.pins.specs.Answer.{putAnswer}
-use Rattle.notes.specs.Fold.{Ended, Progress, Stepping, Turn, acceptedAfter, ended, folded, marksAfter, noted, stops}
+use Rattle.notes.specs.Fold.{Ended, Progress, Stepping, Turn, ended, folded, marksAfter, noted, stops}
 
 module _ {X S M : Type 0} (lenient : Bool) (step : Stepping X S M) (last : ℕ) (ys : List X) where
   split-by : (stop : Bool) (number index many : ℕ) (g h : Progress S M) (first whole : Ended S M)

@@ -4,7 +4,7 @@ use Prim.Native.Nat.{ℕ, zero, suc, _+_, _≤_, _<_}
 use mathlib.Core.Bool.{Bool, true, false, cond, not, _&&_}
 use mathlib.Core.List.{List, [], _∷_, _++_}
 use mathlib.Core.Logic.{_≢_}
-use mathlib.Core.Path.{_≡_, refl, sym, ap, _∙_}
+use mathlib.Core.Path.{_≡_, refl, ap, _∙_}
 use lib.Dec.{eqb}
 use lib.ListN.{getD, length, length-set, take}
 use lib.Seq.{getD-set-other, getD-set-same}
@@ -12,7 +12,7 @@ use borrow.Author.Tests.{eq-eqb}
 use native.Mathlib.Nat.{add-zero}
 use native.Mathlib.Omega.{arith}
 use Rattle.pins.specs.Trace.{itemsFrom}
-use Rattle.notes.specs.Fold.{Ended, Progress, Stepping, acceptedAfter, ended, folded, noted, stops}
+use Rattle.notes.specs.Fold.{Ended, Progress, Stepping, ended, folded, noted, stops}
 use Rattle.notes.specs.FoldLaws.{fold-split}
 
 -- a run ends one way or the other

@@ -1,25 +1,17 @@
 -- How a run of two parts begins, in the words of the code.
-use Prim.Native.Nat.{ℕ, _*_, _≤_}
-use mathlib.Core.Bool.{Bool, true, false, _&&_}
+use Prim.Native.Nat.{ℕ}
+use mathlib.Core.Bool.{Bool, true, false}
 use mathlib.Core.List.{List}
 use mathlib.Core.Path.{_≡_}
-use lib.ListN.{length}
 use Rattle.counts.specs.declared.part.Lookup.{Lookup}
 use Rattle.counts.specs.declared.part.Lookup.the-variants.{Known, Unknown}
 use Rattle.counts.specs.declared.part.Part.{Part}
 use Rattle.counts.specs.Part.{partOf}
-use Rattle.fifo.specs.Sample.{isDepth}
 use Rattle.halves.specs.State.{passesBoth}
 use Rattle.notes.specs.BeginLaws as begin
 use Rattle.notes.specs.Fold.{ended}
-use Rattle.pair_work.specs.Samples.{wholeSamples}
 use Rattle.pair_work.specs.Work.{Progress, worked}
 use Rattle.pair_runs.specs.Run.{fitting, runOf}
-
-pub room-told : (lenient : Bool) (bytes : List ℕ) (g : Progress) (part : Part) → fitting lenient bytes g part ≡ true → wholeSamples bytes * 6 ≤ length (g .answers)
-room-told lenient bytes g =
-    begin.room-told lenient (wholeSamples bytes * 6) (wholeSamples bytes)
-    (λ p. isDepth p (length (g .memory .left)) && isDepth p (length (g .memory .right))) (λ p. passesBoth p (g .state)) (λ p. worked lenient p bytes g) g
 
 module _ (lenient : Bool) (number : ℕ) (bytes : List ℕ) (g : Progress) {looked : Lookup} (l : looked ≡ partOf number) where
   pub run-unknown : looked ≡ Unknown → runOf lenient number bytes g ≡ ended 1 0 g

@@ -1,6 +1,6 @@
 -- What is turned away, on a run of two parts, strict or lenient: 1, 2 and 3 before any sample and with index 0. Part numbers, depths and room
 -- stand in plain figures, so that a definition that says another is refused here.
-use Prim.Native.Nat.{ℕ, _*_, _/_}
+use Prim.Native.Nat.{ℕ, _*_, _/_, _≤_}
 use mathlib.Core.Bool.{Bool, true, false, _&&_}
 use mathlib.Core.List.{List}
 use mathlib.Core.Logic.{_≢_}
@@ -16,7 +16,7 @@ use Rattle.notes.specs.BeginLaws.{Begins, begins}
 use Rattle.notes.specs.Fold.{ended}
 use Rattle.halves.specs.State.{passesBoth}
 use Rattle.pair_work.specs.Work.{Progress, worked}
-use Rattle.pair_runs.specs.Run.{runOf}
+use Rattle.pair_runs.specs.Run.{fitting, runOf}
 
 either-fails : {A B : Type 0} (a b : Bool) → (a ≡ true → A) → (b ≡ true → B) → ¬ (A × B) → a && b ≡ false
 either-fails true true f g n = absurd (n (f refl, g refl))
@@ -51,3 +51,9 @@ module _ (lenient : Bool) (bytes : List ℕ) (g : Progress) where
 
     pub two-by-right : length (g .memory .right) ≢ wordsIn part → runOf lenient (askedBy part) bytes g ≡ ended 2 0 g
     two-by-right n = run-begins .twoByMemory (λ s. n (s .1))
+
+    -- not refused 2: there is room
+    pub room-told : fitting lenient bytes g part ≡ true → length bytes / 8 * 6 ≤ length (g .answers)
+    room-told =
+        begin.room-told (isDepth part (length (g .memory .left)) && isDepth part (length (g .memory .right))) lenient
+        (length bytes / 8 * 6) (length bytes / 8) (length (g .answers)) (length (g .marks))

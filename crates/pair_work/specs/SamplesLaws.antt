@@ -8,7 +8,7 @@ use lib.ListN.{length}
 use borrow.Author.Tests.{ltb-false, ltb-true}
 use native.Mathlib.Omega.{arith}
 use Rattle.halves.specs.Two.{Two, two}
-use Rattle.pins.specs.Trace.{numberAt, wordAt}
+use Rattle.pins.specs.Trace.{numberAt}
 use Rattle.pins.specs.TraceLaws.{items-split, past-all, standing-number, standing-whole, word-first, word-second}
 use Rattle.pair_work.specs.declared.samples.Sample.{Sample}
 use Rattle.pair_work.specs.declared.samples.Sample.the-variants.{Whole, Leftover, End}

@@ -1,13 +1,11 @@
 -- The loop of a run, in the words of the code: what the calls of one turn gave.
-use Prim.Native.Nat.{ℕ, _+_, _*_, _≤_, _<_}
-use mathlib.Core.Bool.{Bool, true, false, not, _&&_, _||_, and-eq-true-iff}
+use Prim.Native.Nat.{ℕ, _+_, _*_, _<_}
+use mathlib.Core.Bool.{Bool, true, false}
 use mathlib.Core.List.{List}
 use mathlib.Core.Logic.{_⊎_, ⊎-elim}
 use mathlib.Core.Path.{_≡_, refl, sym, ap, _∙_}
 use denote.Enum.Declared.{tagOf}
-use lib.Dec.{leb}
 use lib.ListN.{length}
-use borrow.Author.Tests.{leb-true}
 use native.Mathlib.Omega.{arith}
 use Rattle.chip.specs.State.{passes, widths}
 use Rattle.counts.specs.declared.part.Lookup.{Lookup}
@@ -18,7 +16,7 @@ use Rattle.fifo.specs.declared.sample.Outcome.{Outcome}
 use Rattle.fifo.specs.declared.sample.Outcome.the-variants.{Taken, Refused}
 use Rattle.fifo.specs.declared.sample.Sampled.{Sampled}
 use Rattle.fifo.specs.NumberLaws.{step-numbered}
-use Rattle.fifo.specs.Sample.{After, Gives, answersAfter, isDepth, numberOf, stepped}
+use Rattle.fifo.specs.Sample.{After, Gives, answersAfter, numberOf, stepped}
 use Rattle.fifo.specs.SampleLaws.{step-length, step-widths}
 use Rattle.notes.specs.BeginLaws as begin
 use Rattle.notes.specs.Fold.{Ends, acceptedAfter, ended, marksAfter, stops}
@@ -31,7 +29,7 @@ use Rattle.pins.specs.declared.trace.Record.the-variants.{Whole, Leftover, End}
 use Rattle.pins.specs.Trace as trace
 use Rattle.pins.specs.Trace.{recordAt, wholeRecords, wordAt}
 use Rattle.pins.specs.TraceLaws.{isWhole, none-whole, whole-below, whole-word}
-use Rattle.runs.specs.Run.{Ended, Progress, atEnd, fitting, ranOf, runOf, turn, turned, worked}
+use Rattle.runs.specs.Run.{Progress, atEnd, fitting, ranOf, runOf, turn, turned, worked}
 
 pub no-whole : (r : Record) → (tagOf the-type r ≡ 1) ⊎ (tagOf the-type r ≡ 2) → isWhole r ≡ false
 no-whole (Whole word) t = absurd (⊎-elim (λ z. omega arith) (λ z. omega arith) t)
@@ -97,11 +95,6 @@ module _ {lenient : Bool} {part : Part} {bytes : List ℕ} {start g : Progress} 
       turns = loop.turned-now lenient (turned part) (atEnd bytes) (λ at. wordAt bytes (at * 4)) (wholeRecords bytes) (widths part) length start (inv .turns)
           (steady part) below gave n t s l k m;
     }
-
-pub room-told : (lenient : Bool) (bytes : List ℕ) (g : Progress) (part : Part) → fitting lenient bytes g part ≡ true → wholeRecords bytes * 3 ≤ length (g .answers)
-room-told lenient bytes g =
-    begin.room-told lenient (wholeRecords bytes * 3) (wholeRecords bytes) (λ p. isDepth p (length (g .memory))) (λ p. passes p (g .state))
-    (λ p. worked lenient p bytes g) g
 
 module _ (lenient : Bool) (number : ℕ) (bytes : List ℕ) (g : Progress) {looked : Lookup} (l : looked ≡ partOf number) where
   pub run-unknown : looked ≡ Unknown → runOf lenient number bytes g ≡ ended 1 0 g

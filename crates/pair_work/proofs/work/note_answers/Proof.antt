@@ -1,7 +1,5 @@
 use mathlib.Core.Path.{refl}
 use borrow.Author.Needs.{needs}
-use native.Mathlib.Omega.{arith}
-use Rattle.notes.specs.NoteLaws.{put-length}
 use Rattle.pair_work.proofs.work.note_answers.Statement.{statement}
 use Rattle.pair_work.proofs.work.note_answers.Tie as tie
 

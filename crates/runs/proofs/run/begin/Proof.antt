@@ -1,11 +1,13 @@
 use mathlib.Core.Path.{sym, _∙_}
-use mathlib.Core.Bool.{and-eq-true-iff}
 use denote.Ref.{now}
 use borrow.Author.Needs.{needs}
 use Rattle.chip.specs.Widths.{tested-widths}
+use Rattle.notes.specs.BeginLaws.{both-told}
 use Rattle.notes.specs.Fold.{started}
 use Rattle.notes.specs.LoopLaws.{ends-by, turned-away}
-use Rattle.runs.proofs.RunLaws.{room-told, run-room, run-state, run-unknown, run-works}
+use Rattle.runs.specs.NumberLaws.{room-told}
+use Rattle.runs.specs.Run.{ranOf}
+use Rattle.runs.proofs.RunLaws.{run-room, run-state, run-unknown, run-works}
 use Rattle.runs.proofs.run.begin.Statement.{statement}
 use Rattle.runs.proofs.run.begin.Tie as tie
 
@@ -13,22 +15,10 @@ returns : tie.Need-returns
 returns c =
     let looked = c .before .before .before in
     let a = looked .before .before .before .before .before .args in
-    turned-away
+    turned-away {ran = ranOf}
     (run-unknown (a .lenient) (a .part) (now (a .trace)) (started (a .state) (now (a .memory)) (now (a .answers)) (now (a .marks)))
     (looked .look-up .ensures) (c .before .enum-told .given .1))
     (c .end-at .ensures)
-
-go-requires : tie.Need-go-requires
-go-requires c κs =
-    let tested = c .before .before .before .before in
-    let roomy = tested .before .before in
-    let sized = roomy .before in
-    let a = sized .before .before .before .before .before .before .before .before .before .args in (
-      tested-widths _ (a .state) (sym (tested .passes-test .ensures) ∙ c .before .before .before .if2 .taken),
-      room-told (a .lenient) (now (a .trace)) (started (a .state) (now (a .memory)) (now (a .answers)) (now (a .marks)))
-          (sized .before .before .looked-up .given .0 .0)
-          (sym (cc (sized .is-depth .ensures, roomy .is-roomy .ensures)) ∙ tested .before .if1 .taken),
-    )
 
 returns-2 : tie.Need-returns-2
 returns-2 c =
@@ -42,7 +32,7 @@ returns-2 c =
     ends-by
     (run-works (a .lenient) (a .part) (now (a .trace)) (started (a .state) (now (a .memory)) (now (a .answers)) (now (a .marks)))
     (looked .look-up .ensures) _ (known .looked-up .given .1)
-    (sym (cc (sized .is-depth .ensures, roomy .is-roomy .ensures)) ∙ tested .before .if1 .taken)
+    (both-told (sized .is-depth .ensures) (roomy .is-roomy .ensures) (tested .before .if1 .taken))
     (sym (tested .passes-test .ensures) ∙ work .before .before .before .before .if2 .taken))
     (work .go .ensures)
 
@@ -54,10 +44,10 @@ returns-3 c =
     let known = sized .before .before in
     let looked = known .before .before in
     let a = looked .before .before .before .before .before .args in
-    turned-away
+    turned-away {ran = ranOf}
     (run-state (a .lenient) (a .part) (now (a .trace)) (started (a .state) (now (a .memory)) (now (a .answers)) (now (a .marks)))
     (looked .look-up .ensures) _ (known .looked-up .given .1)
-    (sym (cc (sized .is-depth .ensures, roomy .is-roomy .ensures)) ∙ tested .before .if1 .taken)
+    (both-told (sized .is-depth .ensures) (roomy .is-roomy .ensures) (tested .before .if1 .taken))
     (sym (tested .passes-test .ensures) ∙ c .before .if2 .left))
     (c .end-at2 .ensures)
 
@@ -68,11 +58,23 @@ returns-4 c =
     let known = sized .before .before in
     let looked = known .before .before in
     let a = looked .before .before .before .before .before .args in
-    turned-away
+    turned-away {ran = ranOf}
     (run-room (a .lenient) (a .part) (now (a .trace)) (started (a .state) (now (a .memory)) (now (a .answers)) (now (a .marks)))
     (looked .look-up .ensures) _ (known .looked-up .given .1)
-    (sym (cc (sized .is-depth .ensures, roomy .is-roomy .ensures)) ∙ c .before .if1 .left))
+    (both-told (sized .is-depth .ensures) (roomy .is-roomy .ensures) (c .before .if1 .left)))
     (c .end-at3 .ensures)
+
+go-requires : tie.Need-go-requires
+go-requires c κs =
+    let tested = c .before .before .before .before in
+    let roomy = tested .before .before in
+    let sized = roomy .before in
+    let a = sized .before .before .before .before .before .before .before .before .before .args in (
+      tested-widths _ (a .state) (sym (tested .passes-test .ensures) ∙ c .before .before .before .if2 .taken),
+      room-told (a .lenient) (now (a .trace)) (started (a .state) (now (a .memory)) (now (a .answers)) (now (a .marks)))
+          (sized .before .before .looked-up .given .0 .0)
+          (both-told (sized .is-depth .ensures) (roomy .is-roomy .ensures) (tested .before .if1 .taken)),
+    )
 
 pub begin-spec : {M : Type 1} → statement M
 begin-spec =
