@@ -39,11 +39,11 @@ pub same-depth : (part : Part) → wordsIn part ≡ depthOf part
 same-depth Idt72V255LA = refl
 same-depth Idt72V265LA = refl
 
-pub deep : (part : Part) (words : ℕ) → words ≡ wordsIn part → isDepth part words ≡ true
-deep part words whole = eq-eqb words (depthOf part) (whole ∙ same-depth part)
-
 pub not-deep : (part : Part) (words : ℕ) → words ≢ wordsIn part → isDepth part words ≡ false
 not-deep part words n = ne-eqb words (depthOf part) (λ e. n (e ∙ sym (same-depth part)))
+
+pub deep : (part : Part) (words : ℕ) → words ≡ wordsIn part → isDepth part words ≡ true
+deep part words whole = eq-eqb words (depthOf part) (whole ∙ same-depth part)
 
 module _ (x : ℕ) (s : State) (words : ℕ) where
   pub one-comes : (number : ℕ) → number ≢ 255 → number ≢ 265 → sampleRefusal number x s words ≡ 1
