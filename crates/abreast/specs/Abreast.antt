@@ -5,7 +5,7 @@ use mathlib.Core.Path.{_≡_}
 use lib.ListN.{length}
 use Rattle.counts.specs.declared.part.Part.{Part}
 use Rattle.pins.specs.Record.{pinsOf}
-use Rattle.halves.specs.Refuse.{samePins}
+use Rattle.joint.specs.Refuse.{samePins}
 use Rattle.halves.specs.Two.{Two}
 use Rattle.history.specs.Asked.{ShowsRoom, ShowsWord}
 use Rattle.history.specs.Onlooker.{Notes, asksRead, asksWrite}

@@ -14,7 +14,7 @@ use Rattle.history.specs.TakenLaws.{notes-taken}
 use Rattle.history.specs.Trace.{Moment, next, shownBy}
 use Rattle.history.specs.WordLaws.{length-after}
 use Rattle.abreast.specs.Abreast.{Abreast, Records, RoomHeeded, TakenSame, WordHeeded}
-use Rattle.halves.specs.RefuseLaws.{same-pins, withOwn}
+use Rattle.joint.specs.RefuseLaws.{same-pins, withOwn}
 
 -- what is asked happens in both where both flags allow it, and what is not asked in neither
 alike-where : (asked one two : Bool) → (asked ≡ true → one ≡ two) → asked && one ≡ asked && two

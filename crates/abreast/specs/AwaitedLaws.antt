@@ -7,7 +7,7 @@ use mathlib.Core.Path.{_≡_, refl, sym, ap, subst, _∙_}
 use Rattle.chip.specs.Reset.{selectedMode}
 use Rattle.counts.specs.declared.part.Part.{Part}
 use Rattle.fifo.specs.declared.sample.Outcome.the-variants.{Taken}
-use Rattle.halves.specs.Composite.{compositeOf, level}
+use Rattle.joint.specs.Composite.{compositeOf, level}
 use Rattle.halves.specs.Two.{Two, two}
 use Rattle.pins.specs.Record.{bit}
 use Rattle.history.specs.AnswerLaws.{room-answered, word-answered}

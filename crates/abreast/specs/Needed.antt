@@ -12,9 +12,10 @@ use Rattle.chip.specs.Reset.{selectedMode}
 use Rattle.counts.specs.declared.part.Part.{Part}
 use Rattle.counts.specs.declared.part.Part.the-variants.{Idt72V255LA as part255}
 use Rattle.counts.specs.Part.{depthOf}
-use Rattle.halves.specs.Composite.{compositeOf, level}
+use Rattle.joint.specs.Composite.{compositeOf, level}
 use Rattle.fifo.specs.Sample.{recordRefusal}
-use Rattle.halves.specs.Refuse.{numbered, pairRefusal}
+use Rattle.joint.specs.Refuse.{numbered}
+use Rattle.halves.specs.Refuse.{pairRefusal}
 use Rattle.pair.specs.Sample.{After, isTaken}
 use Rattle.pair.specs.SampleLaws.{step-numbered}
 use Rattle.halves.specs.Two.{Two, two}

@@ -7,11 +7,11 @@ use mathlib.Core.Path.{_≡_}
 use Rattle.chip.specs.Reset.{selectedMode}
 use Rattle.counts.specs.declared.part.Part.{Part}
 use Rattle.counts.specs.Part.{numberOf}
-use Rattle.halves.specs.declared.composite.Composite.{Composite}
+use Rattle.joint.specs.declared.composite.Composite.{Composite}
 use Rattle.pair.specs.declared.sample.Outcome.{Outcome}
 use Rattle.pair.specs.declared.sample.Outcome.the-variants.{Taken, Refused}
 use Rattle.halves.specs.declared.state.Halves.{Halves}
-use Rattle.halves.specs.Composite.{compositeOf}
+use Rattle.joint.specs.Composite.{compositeOf}
 use Rattle.pair.specs.Sample.{After, isTaken, pairSampled}
 use Rattle.halves.specs.Two.{Two, two}
 use Rattle.pins.specs.Record.{pinsOf}

@@ -18,7 +18,8 @@ use Rattle.fifo.specs.Sample.{isDepth, recordRefusal}
 use Rattle.pair.specs.declared.sample.Outcome.{Outcome}
 use Rattle.pair.specs.declared.sample.Outcome.the-variants.{Taken, Refused}
 use Rattle.halves.specs.declared.state.Halves.{Halves}
-use Rattle.halves.specs.Refuse.{pairRefusal, samePins}
+use Rattle.joint.specs.Refuse.{samePins}
+use Rattle.halves.specs.Refuse.{pairRefusal}
 use Rattle.pair.specs.Sample.{After, both, isTaken, numberOf, pairStepped, turnedAway}
 use Rattle.pair.specs.SampleLaws.{free-both, refused-still, sample-is-step, step-numbered, taken-both}
 use Rattle.halves.specs.State.{passesBoth}
@@ -34,7 +35,7 @@ use Rattle.history.specs.Told.{Told}
 use Rattle.history.specs.Trace.{Moment, led, next, outcome, powerUp, takes}
 use Rattle.abreast.specs.Abreast.{Records}
 use Rattle.abreast.specs.Pairing.{Pairing, answersAfter, halvesOf, lefts, memoriesOf, movedBoth, pairLed, pairNext, pairOutcome, pairTakes, poweredBoth, rights, takenOf}
-use Rattle.halves.specs.RefuseLaws.{same-pins}
+use Rattle.joint.specs.RefuseLaws.{same-pins}
 
 -- what holds of a pair at every moment from power-up on: each half's notes agree with it, and both are in one mode
 pub record Paired (part : Part) (b : Pairing) : Type 0 where

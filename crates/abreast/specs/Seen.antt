@@ -6,7 +6,7 @@ use mathlib.Core.Path.{_≡_, refl, sym}
 use lib.ListN.{length}
 use Rattle.counts.specs.declared.part.Part.{Part}
 use Rattle.counts.specs.declared.part.Part.the-variants.{Idt72V255LA as part255}
-use Rattle.halves.specs.Refuse.{samePins}
+use Rattle.joint.specs.Refuse.{samePins}
 use Rattle.pins.specs.Record.{pinsOf}
 use Rattle.history.specs.Asked.{takenNext}
 use Rattle.history.specs.Onlooker.{asksRead, asksWrite, full, ready}

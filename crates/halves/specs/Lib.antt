@@ -1,8 +1,6 @@
 pub mod Two
 pub mod State
 pub mod StateLaws
-pub mod Composite
-pub mod CompositeLaws
 pub mod Refuse
 pub mod RefuseLaws
 pub mod Tried

@@ -1,22 +1,21 @@
--- Two parts side by side: what lies behind 4 and 11.
-use Prim.Native.Nat.{ℕ, _+_, _/_, _%_, _^_}
+-- Two parts side by side: what lies behind 4, and the order of the refusals.
+use Prim.Native.Nat.{ℕ, _/_, _^_}
 use mathlib.Core.Bool.{Bool, true, false, cond, or-true, _&&_}
 use mathlib.Core.Logic.{_≢_}
-use mathlib.Core.Path.{_≡_, refl, sym, ap, _∙_}
+use mathlib.Core.Path.{_≡_, refl}
 use lib.Dec.{eqb}
-use lib.Pow.{shr-shr}
-use borrow.Author.Tests.{eq-eqb, eqb-true, ne-eqb}
+use borrow.Author.Tests.{eq-eqb, ne-eqb}
 use Rattle.chip.specs.declared.state.State.{State}
 use Rattle.counts.specs.declared.part.Part.{Part}
 use Rattle.counts.specs.Either.{either}
 use Rattle.counts.specs.Part.{depthOf}
 use Rattle.fifo.specs.Sample.{recordRefusal}
 use Rattle.pins.specs.declared.record.Pins.{Pins}
-use Rattle.pins.specs.declared.record.Skew.{Skew}
 use Rattle.pins.specs.Record.{bit, pinsOf}
 use Rattle.refusals.specs.Refuse.{fromEight, fromSix, refusalOf, refusesEight, refusesFive, refusesNine, refusesSeven, refusesSix, refusesTen}
 use Rattle.halves.specs.declared.state.Halves.{Halves}
-use Rattle.halves.specs.Refuse.{firstOf, pairRefusal, samePins}
+use Rattle.joint.specs.Refuse.{firstOf}
+use Rattle.halves.specs.Refuse.{pairRefusal}
 use Rattle.halves.specs.Two.{Two}
 
 -- no row of the pins gives 4
@@ -47,47 +46,6 @@ four-is-spare part x s = four-by (bit 18 x) (refusalOf part (pinsOf x) s) (pins-
 pub by-pins : (part : Part) (x : ℕ) (s : State) → bit 18 x ≡ false → recordRefusal part x s ≡ refusalOf part (pinsOf x) s
 unfolding recordRefusal
 by-pins part x s clear = simp clear
-
--- pins with skew marks and D of their own
-abbrev pub withOwn : Skew → ℕ → Pins → Pins
-withOwn skew d p = record {
-  mrs = p .mrs;
-  prs = p .prs;
-  wclk = p .wclk;
-  rclk = p .rclk;
-  wen = p .wen;
-  ren = p .ren;
-  ld = p .ld;
-  sen = p .sen;
-  rt = p .rt;
-  fwft = p .fwft;
-  oe = p .oe;
-  skew = skew;
-  d = d;
-}
-
-same-bit : (x y j : ℕ) → x / 2 ^ 21 ≡ y / 2 ^ 21 → bit (21 + j) y ≡ bit (21 + j) x
-same-bit x y j e = ap (λ (above : ℕ). eqb (above % 2) 1) (sym (shr-shr y 21 j) ∙ ap (λ (above : ℕ). above / 2 ^ j) (sym e) ∙ shr-shr x 21 j)
-
--- where two records are not refused 11 they share every other pin
-pub same-pins : (x y : ℕ) → samePins x y ≡ true → pinsOf y ≡ withOwn (pinsOf y .skew) (pinsOf y .d) (pinsOf x)
-same-pins x y e =
-    let at : (j : ℕ) → bit (21 + j) y ≡ bit (21 + j) x = λ j. same-bit x y j (eqb-true _ _ e) in
-    λ i. record {
-      mrs = at 10 i;
-      prs = at 9 i;
-      wclk = at 8 i;
-      rclk = at 7 i;
-      wen = at 6 i;
-      ren = at 5 i;
-      ld = at 4 i;
-      sen = at 3 i;
-      rt = at 2 i;
-      fwft = at 1 i;
-      oe = at 0 i;
-      skew = pinsOf y .skew;
-      d = pinsOf y .d;
-    }
 
 -- in order: 4 of either record, 11, the left part's own number, the right part's own
 module _ (part : Part) (x : Two ℕ) (h : Halves) where

@@ -1,12 +1,8 @@
 -- What counts as an answer proved, of two parts side by side: two outcomes that meet an operation's promise are the same.
-use Prim.Native.Nat.{ℕ}
 use mathlib.Core.Bool.{Bool}
 use mathlib.Core.Path.{_≡_, sym, _∙_}
 use Rattle.counts.specs.declared.part.Part.{Part}
-use Rattle.sides.specs.declared.read.Mode.{Mode}
-use Rattle.halves.specs.declared.composite.Composite.{Composite}
 use Rattle.halves.specs.declared.state.Halves.{Halves}
-use Rattle.halves.specs.Composite.{Composes, ModeAfter}
 use Rattle.halves.specs.State.{PoweredUp, Tested}
 
 pub power-up-unique : (a b : Halves) → PoweredUp a → PoweredUp b → a ≡ b
@@ -14,9 +10,3 @@ power-up-unique a b e f = e ∙ sym f
 
 pub test-unique : (part : Part) (h : Halves) (a b : Bool) → Tested part h a → Tested part h b → a ≡ b
 test-unique part h a b e f = e ∙ sym f
-
-pub compose-unique : (mode : Mode) (left right : ℕ) (a b : Composite) → Composes mode left right a → Composes mode left right b → a ≡ b
-compose-unique mode left right a b e f = e ∙ sym f
-
-pub mode-unique : (mode : Mode) (x : ℕ) (a b : Mode) → ModeAfter mode x a → ModeAfter mode x b → a ≡ b
-mode-unique mode x a b e f = e ∙ sym f

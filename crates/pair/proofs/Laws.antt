@@ -14,7 +14,8 @@ use Rattle.fifo.specs.Sample as single
 use Rattle.pair.specs.declared.sample.Sampled.{Sampled}
 use Rattle.halves.specs.declared.state.Halves.{Halves}
 use Rattle.halves.specs.declared.tried.Trials.{Trials}
-use Rattle.halves.specs.Refuse.{numbered, pairRefusal, samePins}
+use Rattle.joint.specs.Refuse.{numbered, samePins}
+use Rattle.halves.specs.Refuse.{pairRefusal}
 use Rattle.halves.specs.Tried.{tried, triedBoth}
 use Rattle.pair.specs.Sample.{After, Gives, Samples, Steps, both, joined, numberOf, pairSampled, pairStepped, turnedAway}
 use Rattle.pair.specs.SampleLaws.{Numbered, sample-is-step, sample-numbered, step-numbered, step-takes}

@@ -9,10 +9,10 @@ use Rattle.chip.specs.ResetLaws.{isFwft, mode-follows}
 use Rattle.counts.specs.declared.part.Part.{Part}
 use Rattle.fifo.specs.Sample.{fetchedFor, recordRefusal, stepped, taken}
 use Rattle.halves.specs.declared.state.Halves.{Halves}
-use Rattle.halves.specs.Composite.{modeNext}
-use Rattle.halves.specs.CompositeLaws.{next-fwft}
+use Rattle.joint.specs.Composite.{modeNext}
+use Rattle.joint.specs.CompositeLaws.{next-fwft}
 use Rattle.halves.specs.Refuse.{pairRefusal}
-use Rattle.halves.specs.RefuseLaws.{same-pins}
+use Rattle.joint.specs.RefuseLaws.{same-pins}
 use Rattle.halves.specs.Two.{Two}
 use Rattle.pins.specs.Record.{pinsOf}
 use Rattle.pair.specs.Sample.{After, pairStepped}

@@ -12,7 +12,8 @@ use Rattle.pins.specs.Record.{bit, pinsOf}
 use Rattle.refusals.specs.Refuse.{refusalOf}
 use Rattle.sides.specs.declared.read.Mode.the-variants.{Standard, Fwft}
 use Rattle.halves.specs.declared.state.Halves.{Halves}
-use Rattle.halves.specs.Refuse.{firstOf, pairRefusal}
+use Rattle.joint.specs.Refuse.{firstOf}
+use Rattle.halves.specs.Refuse.{pairRefusal}
 use Rattle.halves.specs.RefuseLaws as refuse
 use Rattle.pair.specs.Sample.{pairSampleRefusal}
 use Rattle.halves.specs.State.{passesBoth}

@@ -21,7 +21,8 @@ use Rattle.fifo.specs.SampleLaws as single-laws
 use Rattle.pins.specs.Record.{pinsOf}
 use Rattle.pair.specs.declared.sample.Outcome.the-variants.{Taken, Refused}
 use Rattle.halves.specs.declared.state.Halves.{Halves}
-use Rattle.halves.specs.Refuse.{pairRefusal, samePins}
+use Rattle.joint.specs.Refuse.{samePins}
+use Rattle.halves.specs.Refuse.{pairRefusal}
 use Rattle.pair.specs.Sample.{After, both, isTaken, numberOf, pairSampled, pairSampleRefusal, pairStepped, turnedAway}
 use Rattle.halves.specs.State.{passesBoth}
 use Rattle.halves.specs.Two.{Two, two}

@@ -9,7 +9,7 @@ use Rattle.fifo.specs.Still.{still}
 use Rattle.pins.specs.Record.{pinsOf}
 use Rattle.pair.specs.declared.sample.Sampled.{Sampled}
 use Rattle.halves.specs.declared.state.Halves.{Halves}
-use Rattle.halves.specs.Refuse.{samePins}
+use Rattle.joint.specs.Refuse.{samePins}
 use Rattle.pair.specs.Sample.{joined}
 use Rattle.halves.specs.Two.{Two}
 

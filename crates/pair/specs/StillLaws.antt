@@ -8,7 +8,8 @@ use Rattle.counts.specs.Both.{both}
 use Rattle.fifo.specs.Still.{still}
 use Rattle.fifo.specs.StillLaws.{still-free, still-stepped}
 use Rattle.halves.specs.declared.state.Halves.{Halves}
-use Rattle.halves.specs.Refuse.{pairRefusal, samePins}
+use Rattle.joint.specs.Refuse.{samePins}
+use Rattle.halves.specs.Refuse.{pairRefusal}
 use Rattle.pair.specs.Sample.{pairStepped}
 use Rattle.pair.specs.SampleLaws.{step-both}
 use Rattle.pair.specs.Still.{heldBoth, stillBoth}

@@ -68,7 +68,7 @@ pub fn step(
     let trials = halves::tried::try_both(part, left, right, state, left_memory, right_memory);
     let by_left = trials.left;
     let by_right = trials.right;
-    let number = halves::refuse::refusal(left, right, by_left.number, by_right.number);
+    let number = joint::refuse::refusal(left, right, by_left.number, by_right.number);
     if number != 0 {
         return turn_away(number, state);
     }
@@ -81,7 +81,7 @@ pub fn step(
 fn are_still(left: u32, right: u32, state: Halves) -> bool
     ensures { λ r. ⌜ r ≡ stillBoth (two left right) state ⌝ }
 {
-    halves::refuse::is_same_pins(left, right)
+    joint::refuse::is_same_pins(left, right)
         & fifo::sample::is_still(left, state.left)
         & fifo::sample::is_still(right, state.right)
 }

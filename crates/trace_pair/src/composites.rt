@@ -51,10 +51,10 @@ fn note(
     if marks[i] != 0 {
         return mode;
     }
-    let after = halves::composite::mode_after(mode, pins::trace::word_at(trace, i * 8));
+    let after = joint::composite::mode_after(mode, pins::trace::word_at(trace, i * 8));
     let left = answer_at(answers, i * 6);
     let right = answer_at(answers, i * 6 + 3);
-    let composite = halves::composite::compose(after, left, right);
+    let composite = joint::composite::compose(after, left, right);
     lines::flags::note(flags, i, composite.ff, composite.ef);
     after
 }

@@ -1,6 +1,6 @@
 use borrow.Author.Needs.{needs}
-use Rattle.halves.proofs.composite.level_of.Statement.{statement}
-use Rattle.halves.proofs.composite.level_of.Tie as tie
+use Rattle.joint.proofs.composite.level_of.Statement.{statement}
+use Rattle.joint.proofs.composite.level_of.Tie as tie
 
 returns : tie.Need-returns
 returns c = simp (c .enum-told .given .1)

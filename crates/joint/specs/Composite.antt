@@ -7,7 +7,7 @@ use Rattle.chip.specs.Reset.{selectedMode}
 use Rattle.pins.specs.Record.{bit, pinsOf}
 use Rattle.sides.specs.declared.read.Mode.{Mode}
 use Rattle.sides.specs.declared.read.Mode.the-variants.{Standard, Fwft}
-use Rattle.halves.specs.declared.composite.Composite.{Composite}
+use Rattle.joint.specs.declared.composite.Composite.{Composite}
 
 -- EF and FF: HIGH only where both are; OR and IR: LOW only where both are
 abbrev pub level : Mode → Bool → Bool → Bool

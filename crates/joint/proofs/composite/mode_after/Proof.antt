@@ -1,8 +1,8 @@
 use mathlib.Core.Path.{sym, ap, _∙_}
 use Rattle.pins.specs.declared.record.Pins.{Pins}
 use borrow.Author.Needs.{needs}
-use Rattle.halves.proofs.composite.mode_after.Statement.{statement}
-use Rattle.halves.proofs.composite.mode_after.Tie as tie
+use Rattle.joint.proofs.composite.mode_after.Statement.{statement}
+use Rattle.joint.proofs.composite.mode_after.Tie as tie
 
 returns : tie.Need-returns
 returns c = let high = sym (ap (λ (p : Pins). p .mrs) (c .before .decode .ensures)) ∙ c .if1 .taken in simp high

@@ -8,7 +8,7 @@ use Rattle.chip.specs.ResetLaws.{isFwft, selected-fwft}
 use Rattle.pins.specs.Record.{bit, pinsOf}
 use Rattle.sides.specs.declared.read.Mode.{Mode}
 use Rattle.sides.specs.declared.read.Mode.the-variants.{Standard, Fwft}
-use Rattle.halves.specs.Composite.{compositeOf, level, modeNext}
+use Rattle.joint.specs.Composite.{compositeOf, level, modeNext}
 
 or-low : (left right : Bool) → (left || right ≡ false) ↔ ((left ≡ false) × (right ≡ false))
 or-low true right = (λ e. absurd (true≢false e), λ e. e .0)

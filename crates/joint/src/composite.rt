@@ -1,5 +1,5 @@
 // The composite flags of two parts side by side.
-ghost use Rattle.halves.specs.Composite.{Composes, ModeAfter, isOdd, level};
+ghost use Rattle.joint.specs.Composite.{Composes, ModeAfter, isOdd, level};
 ghost use mathlib.Core.Path.{_≡_};
 use sides::read::Mode;
 

@@ -1,7 +1,7 @@
 use borrow.Author.Needs.{needs}
 use borrow.Author.Tests.{eq-eqb, ne-eqb}
-use Rattle.halves.proofs.refuse.refusal.Statement.{statement}
-use Rattle.halves.proofs.refuse.refusal.Tie as tie
+use Rattle.joint.proofs.refuse.refusal.Statement.{statement}
+use Rattle.joint.proofs.refuse.refusal.Tie as tie
 
 returns : tie.Need-returns
 returns c = simp (c .if1 .taken)

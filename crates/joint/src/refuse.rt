@@ -1,5 +1,5 @@
 // What is turned away, from 4 on, of two records for two parts side by side.
-ghost use Rattle.halves.specs.Refuse.{numbered, samePins};
+ghost use Rattle.joint.specs.Refuse.{numbered, samePins};
 ghost use mathlib.Core.Path.{_≡_};
 
 // The number of the first refusal that applies, or 0, by the number that each half's own table gives.

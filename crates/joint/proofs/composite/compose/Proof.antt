@@ -1,7 +1,7 @@
-use Rattle.halves.specs.Composite.{compositeOf}
+use Rattle.joint.specs.Composite.{compositeOf}
 use borrow.Author.Needs.{needs}
-use Rattle.halves.proofs.composite.compose.Statement.{statement}
-use Rattle.halves.proofs.composite.compose.Tie as tie
+use Rattle.joint.proofs.composite.compose.Statement.{statement}
+use Rattle.joint.proofs.composite.compose.Tie as tie
 
 returns : tie.Need-returns
 unfolding compositeOf

@@ -1,0 +1,16 @@
+-- Two parts side by side: what is turned away from 4 on, by the two records and the number that each part has for its own.
+use Prim.Native.Nat.{ℕ, _/_, _^_}
+use mathlib.Core.Bool.{Bool, cond, _||_}
+use lib.Dec.{eqb}
+
+-- every pin but D and the two skew marks: bits 31 to 21
+abbrev pub samePins : ℕ → ℕ → Bool
+samePins left right = eqb (left / 2 ^ 21) (right / 2 ^ 21)
+
+-- the left part's number, the right part's where the left has none
+abbrev pub firstOf : ℕ → ℕ → ℕ
+firstOf left right = cond (eqb left 0) right left
+
+-- 4 of either part, then 11, then all that the left part refuses before all that the right part does
+abbrev pub numbered : Bool → ℕ → ℕ → ℕ
+numbered same left right = cond (eqb left 4 || eqb right 4) 4 (cond same (firstOf left right) 11)
