@@ -1,87 +1,24 @@
 -- What the proofs of functions put together, over what the functions called gave: mostly a law for each way out.
-use Prim.Native.Nat.{ℕ, _+_, _*_, _<_}
-use mathlib.Core.Bool.{Bool, true, false, _&&_}
+use Prim.Native.Nat.{ℕ}
 use mathlib.Core.List.{List}
+use mathlib.Core.Path.{_≡_, refl, sym, ap, _∙_}
 use lib.ListN.{length}
-use mathlib.Core.Path.{_≡_, refl, sym, ap, subst, _∙_}
-use Rattle.chip.specs.declared.state.State.{State}
-use Rattle.spelling.specs.Spelling.{putClocks, spelling, spells, stateBytes, stateIn}
-use Rattle.spelling.specs.SpellingLaws.{Bytes, clocks-put, written-back}
-use Rattle.chip.specs.Reset.{poweredUp}
-use Rattle.chip.specs.State.{passes}
+use borrow.Author.Needs.{needs}
 use borrow.Author.Tests.{eq-eqb, ne-eqb}
+use Rattle.buffers.specs.declared.verdict.Verdict.{Verdict}
+use Rattle.buffers.specs.declared.verdict.Verdict.the-variants.{Work, Refuse}
+use Rattle.buffers.specs.Memory.{memoryBytes}
+use Rattle.buffers.specs.Verdict.{Ready, judged, numberOf}
+use Rattle.buffers.specs.VerdictLaws.{cleared}
+use Rattle.call_work.specs.Work.{Gives, worked}
+use Rattle.chip.specs.declared.state.State.{State}
+use Rattle.chip.specs.Reset.{poweredUp}
 use Rattle.counts.specs.declared.part.Lookup.{Lookup}
 use Rattle.counts.specs.declared.part.Lookup.the-variants.{Known, Unknown}
 use Rattle.counts.specs.declared.part.Part.{Part}
-use Rattle.counts.specs.Part.{depthOf, partOf}
-use Rattle.buffers.specs.declared.verdict.Verdict.{Verdict}
-use Rattle.buffers.specs.declared.verdict.Verdict.the-variants.{Work, Refuse}
-use Rattle.buffers.specs.Memory.{Within, memoryBytes, storedIn, wordSize}
-use Rattle.buffers.specs.Verdict.{Ready, judged, numberOf, onRecord, onState, roomy}
-use Rattle.fifo_c.specs.Call.{Calls, Gives, PowersUp, byVerdict, called, memoryFor, powered, taken, took, worked}
-use Rattle.chip.specs.declared.advance.Advanced.{Advanced}
-use Rattle.chip.specs.Advance.{advanced, storeOf}
-use Rattle.chip.specs.Answer.{answerOf}
-use Rattle.chip.specs.Quiet.{held}
-use Rattle.chip.specs.QuietLaws.{quiet-advanced}
-use Rattle.chip.specs.Laws.{store-placed}
-use Rattle.counts.specs.Round.{placeOf}
-use Rattle.pins.specs.Answer.{putAnswer}
-use Rattle.fifo.specs.Sample.{recordRefusal}
-use Rattle.fifo.specs.Still.{still}
-use Rattle.fifo.specs.StillLaws.{still-free, still-quiet}
-use Rattle.pins.specs.declared.record.Pins.{Pins}
-use Rattle.pins.specs.Record.{pinsOf}
-use Rattle.pins.specs.Trace.{wordAt}
-use Rattle.buffers.specs.VerdictLaws.{cleared, store-within}
-use native.Mathlib.Omega.{arith}
-use Rattle.chip.specs.declared.advance.Store.{Store}
-use Rattle.chip.specs.declared.advance.Store.the-variants.{Put}
-use borrow.Author.Needs.{needs}
-
-module _ (part : Part) (x : ℕ) (state memory answer : List ℕ) {s : State} (read : s ≡ stateIn state) {p : Pins} (decoded : p ≡ pinsOf x) {place word : ℕ}
-    (found : place ≡ placeOf (depthOf part) (s .read .count .0)) (fetched : word ≡ wordAt memory (place * wordSize))
-    {a : Advanced} (moved : a ≡ advanced part p word s) where
-  as-taken : took a memory answer ≡ taken part x (stateIn state) memory answer
-  unfolding taken
-  as-taken = rw (moved, decoded, fetched, found, read) refl
-
-  pub store-in-memory : length memory ≡ memoryBytes part → Within (a .store) (length memory)
-  unfolding advanced
-  store-in-memory e = rw moved (store-within part (storeOf part p s) (length memory) e (store-placed part p s))
-
-  pub takes : {state′ memory′ answer′ : List ℕ} → state′ ≡ spelling (a .state) → memory′ ≡ storedIn (a .store) memory → answer′ ≡ putAnswer answer 0 (a .answer)
-      → Gives (taken part x (stateIn state) memory answer) 0 state′ memory′ answer′
-  takes e f g = rw (← as-taken) (record { result = refl; spelled = e; words = f; room = g })
-
-module _ (part : Part) (x : ℕ) (state memory answer : List ℕ) {number : ℕ} (e : number ≡ recordRefusal part x (stateIn state)) where
-  pub works-taken : {state′ memory′ answer′ : List ℕ} → number ≡ 0 → Gives (taken part x (stateIn state) memory answer) 0 state′ memory′ answer′
-      → Gives (worked part x state memory answer) number state′ memory′ answer′
-  unfolding worked
-  works-taken free gives = rw (← e, free) gives
-
-  pub works-refused : (number ≡ 0 → ⊥) → Gives (worked part x state memory answer) number state memory answer
-  unfolding worked
-  works-refused refuses = rw (← e, ne-eqb number 0 refuses) (record { result = refl; spelled = refl; words = refl; room = refl })
-
-module _ (part : Part) (x : ℕ) (state memory answer : List ℕ) {told : Bool} (e : told ≡ still x (stateIn state)) where
-  pub works-held : {state′ answer′ : List ℕ} → told ≡ true → state′ ≡ spelling (held (pinsOf x) (stateIn state))
-      → answer′ ≡ putAnswer answer 0 (answerOf part (pinsOf x) (stateIn state)) → Gives (worked part x state memory answer) 0 state′ memory answer′
-  unfolding worked taken
-  works-held holds f g =
-      let calm = sym e ∙ holds in
-      rw (still-free part x (stateIn state) calm, quiet-advanced part (pinsOf x) _ (stateIn state) (still-quiet x (stateIn state) calm))
-      (record { result = refl; spelled = f; words = refl; room = g })
-
-pub answer-given : (part : Part) (x : ℕ) (state answer : List ℕ) {p : Pins} {s : State} {given : ℕ} {answer′ : List ℕ} → p ≡ pinsOf x → s ≡ stateIn state
-    → given ≡ answerOf part p s → answer′ ≡ putAnswer answer 0 given → answer′ ≡ putAnswer answer 0 (answerOf part (pinsOf x) (stateIn state))
-answer-given part x state answer decoded read found put = put ∙ rw (found, read, decoded) refl
-
--- only the levels are other bytes than before
-pub clocks-held : (x : ℕ) (state : List ℕ) {p : Pins} {state′ : List ℕ} → length state ≡ stateBytes → Bytes state → spells state ≡ true → p ≡ pinsOf x
-    → state′ ≡ putClocks (p .wclk) (p .rclk) state → state′ ≡ spelling (held (pinsOf x) (stateIn state))
-clocks-held x state {p = p} room small own decoded put =
-    put ∙ ap (putClocks (p .wclk) (p .rclk)) (sym (written-back state room small own)) ∙ rw decoded (clocks-put (pinsOf x) (stateIn state))
+use Rattle.counts.specs.Part.{partOf}
+use Rattle.spelling.specs.Spelling.{spelling, stateBytes}
+use Rattle.fifo_c.specs.Call.{Calls, PowersUp, byVerdict, called, memoryFor, powered}
 
 module _ (number : ℕ) (bytes state memory answer : List ℕ) {v : Verdict} (e : v ≡ judged number bytes state (length memory) (length answer)) where
   called-as : called number bytes state memory answer ≡ byVerdict v state memory answer

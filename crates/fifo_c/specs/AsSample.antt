@@ -33,7 +33,8 @@ use Rattle.numerals.specs.Bytes.{wordsIn}
 use Rattle.numerals.specs.BytesLaws.{word-in, words-put}
 use Rattle.buffers.specs.Memory.{fetchedFrom, memoryBytes, storedIn, wordSize}
 use Rattle.buffers.specs.Verdict.{answerBytes, judged, onRecord, onState, roomy}
-use Rattle.fifo_c.specs.Call.{Called, byVerdict, called, taken, turnedAway, worked}
+use Rattle.call_work.specs.Work.{Called, taken, turnedAway, worked}
+use Rattle.fifo_c.specs.Call.{byVerdict, called}
 use Rattle.spelling.specs.Spelling.{spelling, spells, stateBytes, stateIn}
 use Rattle.spelling.specs.ReadBackLaws.{Spelled, counted-in, read-back, spelling-bytes}
 use Rattle.spelling.specs.SpellingLaws.{Bytes, written-back}

@@ -12,7 +12,8 @@ use Rattle.buffers.specs.Verdict.{judged}
 use Rattle.counts.specs.declared.part.Part.{Part}
 use Rattle.fifo.specs.Sample.{recordRefusal}
 use Rattle.spelling.specs.Spelling.{stateIn}
-use Rattle.fifo_c.specs.Call.{Called, byVerdict, called, decided, taken, turnedAway, worked}
+use Rattle.call_work.specs.Work.{Called, decided, taken, turnedAway, worked}
+use Rattle.fifo_c.specs.Call.{byVerdict, called}
 
 abbrev Unmoved : Called → List ℕ → List ℕ → List ℕ → Type 0
 Unmoved c state memory answer = c .code ≢ 0 → c ≡ turnedAway (c .code) state memory answer

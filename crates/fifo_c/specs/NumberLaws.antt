@@ -18,7 +18,8 @@ use Rattle.fifo.specs.Sample.{recordRefusal}
 use Rattle.pins.specs.Record.{bit, pinsOf}
 use Rattle.refusals.specs.Refuse.{refusalOf}
 use Rattle.spelling.specs.Spelling.{stateIn}
-use Rattle.fifo_c.specs.Call.{called, decided, memoryFor, powered, taken, worked}
+use Rattle.call_work.specs.Work.{decided, taken, worked}
+use Rattle.fifo_c.specs.Call.{called, memoryFor, powered}
 
 -- 0 stands for no refusal of the record, and for a record taken
 taken-by : (part : Part) (x : ℕ) (state memory answer : List ℕ) (refusal : ℕ) (free : Bool) → eqb refusal 0 ≡ free

@@ -2,7 +2,8 @@
 use Prim.Native.Nat.{ℕ}
 use mathlib.Core.List.{List}
 use mathlib.Core.Path.{_≡_, sym, _∙_}
-use Rattle.fifo_c.specs.Call.{Calls, GivesMemoryBytes, GivesStateBytes, PowersUp}
+use Rattle.call_work.specs.Unique.{gives-unique}
+use Rattle.fifo_c.specs.Call.{Calls, GivesMemoryBytes, GivesStateBytes, PowersUp, called}
 
 pub state-bytes-unique : (a b : ℕ) → GivesStateBytes a → GivesStateBytes b → a ≡ b
 state-bytes-unique a b e f = e ∙ sym f
@@ -15,5 +16,4 @@ power-up-unique state a b s t f g = (f .result ∙ sym (g .result), f .spelled �
 
 pub call-unique : (number : ℕ) (bytes state memory answer : List ℕ) (a b : ℕ) (s t m n k l : List ℕ)
     → Calls number bytes state memory answer a s m k → Calls number bytes state memory answer b t n l → (a ≡ b) × (s ≡ t) × (m ≡ n) × (k ≡ l)
-call-unique number bytes state memory answer a b s t m n k l f g =
-    (f .result ∙ sym (g .result), f .spelled ∙ sym (g .spelled), f .words ∙ sym (g .words), f .room ∙ sym (g .room))
+call-unique number bytes state memory answer = gives-unique (called number bytes state memory answer)

@@ -26,7 +26,8 @@ use Rattle.numerals.specs.Bytes.{wordsIn}
 use Rattle.numerals.specs.BytesLaws.{put-length}
 use Rattle.buffers.specs.Memory.{fetchedFrom, memoryBytes, storedIn, wordSize}
 use Rattle.buffers.specs.Verdict.{answerBytes, judged, onRecord, onState, roomy}
-use Rattle.fifo_c.specs.Call.{byVerdict, called, decided, powered, taken, worked}
+use Rattle.call_work.specs.Work.{decided, taken, worked}
+use Rattle.fifo_c.specs.Call.{byVerdict, called, powered}
 use Rattle.buffers.specs.VerdictLaws.{cleared}
 use Rattle.spelling.specs.Spelling.{stateBytes, stateIn}
 use Rattle.spelling.specs.ReadBackLaws.{Spelled, power-up-bytes, power-up-read}

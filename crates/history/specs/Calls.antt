@@ -8,7 +8,8 @@ use Rattle.counts.specs.declared.part.Part.{Part}
 use Rattle.counts.specs.Part.{numberOf}
 use Rattle.buffers.specs.Memory.{wordSize}
 use Rattle.buffers.specs.Verdict.{answerBytes}
-use Rattle.fifo_c.specs.Call.{Called, called, powered}
+use Rattle.call_work.specs.Work.{Called}
+use Rattle.fifo_c.specs.Call.{called, powered}
 use Rattle.pins.specs.Trace.{wordAt}
 
 pub record Buffers : Type 0 where

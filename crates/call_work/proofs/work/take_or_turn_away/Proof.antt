@@ -1,8 +1,8 @@
 use denote.Ref.{now}
-use Rattle.fifo_c.proofs.Laws.{works-refused, works-taken}
+use Rattle.call_work.proofs.Laws.{works-refused, works-taken}
 use borrow.Author.Needs.{needs}
-use Rattle.fifo_c.proofs.call.take_or_turn_away.Statement.{statement}
-use Rattle.fifo_c.proofs.call.take_or_turn_away.Tie as tie
+use Rattle.call_work.proofs.work.take_or_turn_away.Statement.{statement}
+use Rattle.call_work.proofs.work.take_or_turn_away.Tie as tie
 
 returns : tie.Need-returns
 returns c =

@@ -1,8 +1,8 @@
 use denote.Ref.{now}
-use Rattle.fifo_c.proofs.Laws.{works-held}
+use Rattle.call_work.proofs.Laws.{works-held}
 use borrow.Author.Needs.{needs}
-use Rattle.fifo_c.proofs.call.work.Statement.{statement}
-use Rattle.fifo_c.proofs.call.work.Tie as tie
+use Rattle.call_work.proofs.work.work.Statement.{statement}
+use Rattle.call_work.proofs.work.work.Tie as tie
 
 returns : tie.Need-returns
 returns c =

@@ -1,8 +1,8 @@
 use denote.Ref.{now}
-use Rattle.fifo_c.proofs.Laws.{answer-given, clocks-held}
+use Rattle.call_work.proofs.Laws.{answer-given, clocks-held}
 use borrow.Author.Needs.{needs}
-use Rattle.fifo_c.proofs.call.hold.Statement.{statement}
-use Rattle.fifo_c.proofs.call.hold.Tie as tie
+use Rattle.call_work.proofs.work.hold.Statement.{statement}
+use Rattle.call_work.proofs.work.hold.Tie as tie
 
 returns : tie.Need-returns
 returns c =

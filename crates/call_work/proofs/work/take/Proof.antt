@@ -4,10 +4,10 @@ use lib.ListN.{length}
 use Rattle.chip.specs.Widths.{tested-widths}
 use Rattle.buffers.specs.VerdictLaws.{fetch-within}
 use Rattle.spelling.specs.Spelling.{stateIn}
-use Rattle.fifo_c.proofs.Laws.{store-in-memory, takes}
+use Rattle.call_work.proofs.Laws.{store-in-memory, takes}
 use borrow.Author.Needs.{needs}
-use Rattle.fifo_c.proofs.call.take.Statement.{statement}
-use Rattle.fifo_c.proofs.call.take.Tie as tie
+use Rattle.call_work.proofs.work.take.Statement.{statement}
+use Rattle.call_work.proofs.work.take.Tie as tie
 
 fetch-requires : tie.Need-fetch-requires
 fetch-requires c κs =
