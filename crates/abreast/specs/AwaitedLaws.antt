@@ -1,14 +1,14 @@
 -- The composite flags in the last answers show room, or a word ready, only where both parts do.
 use Prim.Native.Nat.{ℕ}
-use mathlib.Core.Bool.{Bool, true, false, not, cond, _&&_, _||_, and-eq-true-iff, true≢false}
+use mathlib.Core.Bool.{Bool, true, false, _&&_, _||_, and-eq-true-iff, true≢false}
 use mathlib.Core.List.{List}
 use mathlib.Core.Logic.{_↔_}
-use mathlib.Core.Path.{_≡_, refl, sym, ap, subst, _∙_}
+use mathlib.Core.Path.{_≡_, refl, sym, subst, _∙_}
 use Rattle.chip.specs.Reset.{selectedMode}
 use Rattle.counts.specs.declared.part.Part.{Part}
 use Rattle.fifo.specs.declared.sample.Outcome.the-variants.{Taken}
 use Rattle.joint.specs.Composite.{compositeOf, level}
-use Rattle.halves.specs.Two.{Two, two}
+use Rattle.halves.specs.Two.{Two}
 use Rattle.pins.specs.Record.{bit}
 use Rattle.history.specs.AnswerLaws.{room-answered, word-answered}
 use Rattle.history.specs.Asked.{ShowsRoom, ShowsWord}

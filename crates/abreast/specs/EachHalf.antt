@@ -23,7 +23,7 @@ use Rattle.history.specs.Flags.{Judged, flags-judged}
 use Rattle.history.specs.Histories.{Kept, TellsInTime, Waiting, answer-in-time, answered, in-time-through, kept}
 use Rattle.history.specs.Trace.{Answers, Moment, led, next, outcome, powerUp}
 use Rattle.abreast.specs.Abreast.{Records}
-use Rattle.abreast.specs.Pairing.{Pairing, halvesOf, lefts, memoriesOf, pairLed, pairNext, pairOutcome, poweredBoth, rights, takenOf}
+use Rattle.abreast.specs.Pairing.{Pairing, halvesOf, lefts, memoriesOf, pairLed, pairOutcome, poweredBoth, rights, takenOf}
 use Rattle.abreast.specs.PairingLaws.{halves-led, pair-not-three, paired-led, paired-powered, taken-each}
 use Rattle.abreast.specs.RunLaws.{run-led, run-not-three}
 
@@ -37,6 +37,7 @@ pub record IsPart (part : Part) (memory records : List ℕ) (half : Moment) : Ty
 
 -- The answer of a half to a sample that the pair takes is that part's answer, and tells in time.
 pub record AnswersAsPart (part : Part) (memory records : List ℕ) (half : Moment) (x answer : ℕ) : Type 0 where
+  pub same : outcome part (led part (powerUp memory) records) x .sampled .outcome ≡ fifo.Taken answer
   pub shown : Answers part (pinsOf x) (next part half x .state) answer
   pub inTime : TellsInTime part memory records x answer
 
@@ -54,6 +55,7 @@ answers-as-part : (part : Part) (memory : List ℕ) → length memory ≡ depthO
 answers-as-part part memory whole records half e x answer given =
     let there = ap (λ (m : Moment). outcome part m x .sampled .outcome) (sym e) ∙ given in
     record {
+      same = there;
       shown = subst (λ (m : Moment). Answers part (pinsOf x) (next part m x .state) answer) (sym e) (answered part memory whole records x answer there);
       inTime = answer-in-time part memory whole records x answer there;
     }

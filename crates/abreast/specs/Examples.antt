@@ -1,6 +1,5 @@
 -- To heed the left part's flag alone is too little for reads: two traces in which a read is asked while only that part shows a word ready, and
 -- which leave the parts apart.
-use Prim.Native.Nat.{ℕ}
 use mathlib.Core.Bool.{true, false}
 use mathlib.Core.List.{List, [], _∷_}
 use mathlib.Core.Path.{_≡_, refl}

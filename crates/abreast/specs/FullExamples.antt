@@ -1,5 +1,4 @@
 -- Nor is it enough for writes: two traces in which a write is asked while only the left part shows room.
-use Prim.Native.Nat.{ℕ}
 use mathlib.Core.Bool.{true, false}
 use mathlib.Core.List.{List, [], _∷_}
 use mathlib.Core.Path.{_≡_, refl, _∙_}

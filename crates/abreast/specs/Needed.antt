@@ -1,18 +1,16 @@
 -- Order 1, never apart: the condition is needed. Without it for the one flag or for the other, though it is kept for the other one, a trace leaves the
 -- halves of a pair apart: Examples.antt and FullExamples.antt.
 use Prim.Native.Nat.{ℕ}
-use mathlib.Core.Bool.{Bool, true, false, cond, not, _&&_, and-eq-true-iff, true≢false}
+use mathlib.Core.Bool.{Bool, true, false, cond, and-eq-true-iff, true≢false}
 use mathlib.Core.List.{List, [], _∷_}
 use mathlib.Core.Path.{_≡_, refl, sym, ap, subst, _∙_}
-use lib.Dec.{eqb}
 use lib.ListN.{length, length-replicate}
 use borrow.Author.Tests.{eq-eqb, eqb-true}
 use native.Mathlib.Omega.{arith}
-use Rattle.chip.specs.Reset.{selectedMode}
 use Rattle.counts.specs.declared.part.Part.{Part}
 use Rattle.counts.specs.declared.part.Part.the-variants.{Idt72V255LA as part255}
 use Rattle.counts.specs.Part.{depthOf}
-use Rattle.joint.specs.Composite.{compositeOf, level}
+use Rattle.joint.specs.Composite.{compositeOf}
 use Rattle.fifo.specs.Sample.{recordRefusal}
 use Rattle.joint.specs.Refuse.{numbered}
 use Rattle.halves.specs.Refuse.{pairRefusal}
@@ -24,16 +22,15 @@ use Rattle.history.specs.Asked.{ShowsRoom, ShowsWord, takenNext}
 use Rattle.history.specs.Onlooker.{tellsFull, tellsReady}
 use Rattle.history.specs.TakenLaws.{takes-free}
 use Rattle.history.specs.Tight.{tried, zeros}
-use Rattle.history.specs.Trace.{Moment, next, powerUp}
 use Rattle.abreast.specs.Abreast.{Records, TakenSame}
 use Rattle.abreast.specs.AwaitedLaws.{full-either, tell-both, word-both}
-use Rattle.abreast.specs.Examples.{apart-by-ef, readByEf}
+use Rattle.abreast.specs.Examples.{apart-by-ef, apart-by-or, readByEf, readByOr}
 use Rattle.abreast.specs.Filled.{filledThen}
-use Rattle.abreast.specs.FullExamples.{apart-by-ff, writeByFf}
-use Rattle.abreast.specs.Pairing.{EachOf, NeverApart, Pairing, RoomAwaited, WordAwaited, composite, halvesOf, memoriesOf, pairNext, pairTakes, poweredBoth, takenBoth}
+use Rattle.abreast.specs.FullExamples.{apart-by-ff, apart-by-ir, writeByFf, writeByIr}
+use Rattle.abreast.specs.Pairing.{EachOf, NeverApart, Pairing, RoomAwaited, WordAwaited, composite, halvesOf, memoriesOf, pairNext, pairTakes, poweredBoth}
 use Rattle.abreast.specs.PairingLaws.{Paired, pair-steps, paired-next, paired-powered, taken-each, taken-told}
 use Rattle.abreast.specs.Seen as seen
-use Rattle.abreast.specs.Seen.{Seen, asksToRead, asksToWrite, seenFrom, takenSame}
+use Rattle.abreast.specs.Seen.{Seen, asksToRead, asksToWrite, seenFrom}
 
 -- the composite shows what both parts show
 record Composed (part : Part) (b : Pairing) : Type 0 where
@@ -123,25 +120,51 @@ opens-ef : Opening part255 (poweredBoth memories) readByEf
 unfolding tried poweredBoth readByEf
 opens-ef = (λ e. absurd (true≢false (sym e)), λ e. absurd (true≢false (sym e)))
 
-opens-ff : Opening part255 (poweredBoth memories) (filledThen false writeByFf)
-unfolding tried poweredBoth
-opens-ff = (λ e. absurd (true≢false (sym e)), λ e. absurd (true≢false (sym e)))
+opens-or : Opening part255 (poweredBoth memories) readByOr
+unfolding tried poweredBoth readByOr
+opens-or = (λ e. absurd (true≢false (sym e)), λ e. absurd (true≢false (sym e)))
 
--- a user who does not wait for both parts' EF or OR
+opens-filled : (fwft : Bool) (later : List Records) → Opening part255 (poweredBoth memories) (filledThen fwft later)
+unfolding tried poweredBoth
+opens-filled true later = (λ e. absurd (true≢false (sym e)), λ e. absurd (true≢false (sym e)))
+opens-filled false later = (λ e. absurd (true≢false (sym e)), λ e. absurd (true≢false (sym e)))
+
+told : (samples : List Records) {v : Seen} → Opening part255 (poweredBoth memories) samples → seen.seen samples ≡ v → v .together ≡ true
+    → Lifted part255 (poweredBoth memories) (two 0 0) samples v
+unfolding poweredBoth
+told samples opens e =
+    subst (λ (v : Seen). v .together ≡ true → Lifted part255 (poweredBoth memories) (two 0 0) samples v) e
+    (lifted part255 samples (poweredBoth memories) (two 0 0) powered opens)
+
+-- samples from power-up that leave the halves apart, though each of them heeds this
+abbrev ApartBy : (Pairing → Records → Type 0) → List Records → Type 0
+ApartBy Heeds samples =
+    EachOf part255 Heeds (poweredBoth memories) samples × (NeverApart part255 (poweredBoth memories) (two 0 0) samples → ⊥)
+
+-- a read by the left part's EF alone, or by its OR
+pub by-ef : ApartBy (RoomAwaited part255) readByEf
+by-ef = let t = told readByEf opens-ef apart-by-ef refl in (t .room refl, λ never. (let same = t .equal never .1 in absurd (omega (arith, same))))
+
+pub by-or : ApartBy (RoomAwaited part255) readByOr
+by-or = let t = told readByOr opens-or apart-by-or refl in (t .room refl, λ never. (let same = t .equal never .1 in absurd (omega (arith, same))))
+
+-- a write by the left part's FF alone, or by its IR
+pub by-ff : ApartBy (WordAwaited part255) (filledThen false writeByFf)
+by-ff =
+    let t = told (filledThen false writeByFf) (opens-filled false writeByFf) apart-by-ff refl in
+    (t .word refl, λ never. (let same = t .equal never .0 in absurd (omega (arith, same))))
+
+pub by-ir : ApartBy (WordAwaited part255) (filledThen true writeByIr)
+by-ir =
+    let t = told (filledThen true writeByIr) (opens-filled true writeByIr) apart-by-ir refl in
+    (t .word refl, λ never. (let same = t .equal never .0 in absurd (omega (arith, same))))
+
+-- so the user has to wait for both parts' EF or OR
 pub word-needed : ((memory : Two (List ℕ)) → length (memory .left) ≡ depthOf part255 → length (memory .right) ≡ depthOf part255 → (samples : List Records)
     → EachOf part255 (RoomAwaited part255) (poweredBoth memory) samples → NeverApart part255 (poweredBoth memory) (two 0 0) samples) → ⊥
-unfolding poweredBoth
-word-needed never =
-    let told = lifted part255 readByEf (poweredBoth memories) (two 0 0) powered opens-ef (rw apart-by-ef refl) in
-    let apart = told .equal (never memories zeros-deep zeros-deep readByEf (told .room (rw apart-by-ef refl))) .1 in
-    absurd (omega (arith, rw apart-by-ef at apart))
+word-needed never = by-ef .1 (never memories zeros-deep zeros-deep readByEf (by-ef .0))
 
--- nor for both parts' FF or IR
+-- and for both parts' FF or IR
 pub room-needed : ((memory : Two (List ℕ)) → length (memory .left) ≡ depthOf part255 → length (memory .right) ≡ depthOf part255 → (samples : List Records)
     → EachOf part255 (WordAwaited part255) (poweredBoth memory) samples → NeverApart part255 (poweredBoth memory) (two 0 0) samples) → ⊥
-unfolding poweredBoth
-room-needed never =
-    let samples = filledThen false writeByFf in
-    let told = lifted part255 samples (poweredBoth memories) (two 0 0) powered opens-ff (rw apart-by-ff refl) in
-    let apart = told .equal (never memories zeros-deep zeros-deep samples (told .word (rw apart-by-ff refl))) .0 in
-    absurd (omega (arith, rw apart-by-ff at apart))
+room-needed never = by-ff .1 (never memories zeros-deep zeros-deep (filledThen false writeByFf) (by-ff .0))

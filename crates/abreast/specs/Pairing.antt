@@ -26,7 +26,7 @@ pub record Pairing : Type 0 where
   pub right : Moment
   pub answers : Two ℕ
 
--- before a sample is taken there is no answer, and a user who goes by answers asks for nothing
+-- before a sample is taken there is no answer: 0 shows neither room nor a word in Standard, the mode that an onlooker notes at power-up
 unfoldable pub poweredBoth : Two (List ℕ) → Pairing
 poweredBoth memory = record { left = powerUp (memory .left); right = powerUp (memory .right); answers = two 0 0 }
 

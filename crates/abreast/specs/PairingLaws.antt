@@ -8,7 +8,6 @@ use lib.ListN.{length}
 use borrow.Author.Tests.{eq-eqb}
 use native.Mathlib.Omega.{arith}
 use lib.Dec.{eqb}
-use Rattle.chip.specs.ResetLaws.{isFwft}
 use Rattle.counts.specs.declared.part.Part.{Part}
 use Rattle.counts.specs.Part.{depthOf}
 use Rattle.counts.specs.PartLaws.{own-number}
@@ -20,10 +19,10 @@ use Rattle.pair.specs.declared.sample.Outcome.the-variants.{Taken, Refused}
 use Rattle.halves.specs.declared.state.Halves.{Halves}
 use Rattle.joint.specs.Refuse.{samePins}
 use Rattle.halves.specs.Refuse.{pairRefusal}
-use Rattle.pair.specs.Sample.{After, both, isTaken, numberOf, pairStepped, turnedAway}
-use Rattle.pair.specs.SampleLaws.{free-both, refused-still, sample-is-step, step-numbered, taken-both}
+use Rattle.pair.specs.Sample.{After, both, isTaken, numberOf, pairStepped}
+use Rattle.pair.specs.SampleLaws.{free-both, sample-is-step, step-numbered, taken-both}
 use Rattle.halves.specs.State.{passesBoth}
-use Rattle.halves.specs.StateLaws.{alike-itself}
+use Rattle.halves.specs.StateLaws.{both-pass}
 use Rattle.halves.specs.Two.{Two, two}
 use Rattle.pins.specs.Record.{pinsOf}
 use Rattle.refusals.specs.ReachLaws.{reached-passes}
@@ -80,15 +79,12 @@ module _ (part : Part) (m : Moment) (x : ℕ) where
 
 module _ (part : Part) (b : Pairing) (g : Paired part b) where
   pub passes-test : passesBoth part (halvesOf b) ≡ true
-  unfolding passesBoth
   passes-test =
-      let mode : isFwft (b .left .state .read .mode) ≡ isFwft (b .right .state .read .mode) = sym (g .left .agrees .fwft) ∙ g .mode ∙ g .right .agrees .fwft in
-      simp (
-        reached-passes part (b .left .state) (g .leftCounts) (g .left .reached),
-        reached-passes part (b .right .state) (g .rightCounts) (g .right .reached),
-        mode,
-        alike-itself (isFwft (b .right .state .read .mode)),
-      )
+      both-pass part (halvesOf b) (record {
+        left = reached-passes part (b .left .state) (g .leftCounts) (g .left .reached);
+        right = reached-passes part (b .right .state) (g .rightCounts) (g .right .reached);
+        mode = sym (g .left .agrees .fwft) ∙ g .mode ∙ g .right .agrees .fwft;
+      })
 
   sized : isDepth part (length (b .left .memory)) && isDepth part (length (b .right .memory)) ≡ true
   sized = simp (eq-eqb _ _ (g .left .agrees .whole), eq-eqb _ _ (g .right .agrees .whole))
@@ -119,14 +115,14 @@ module _ (part : Part) (b : Pairing) (g : Paired part b) where
           let r = sample-steps part (b .right) (g .rightCounts) (g .right) (x .right) in
           let whole : pairOutcome part b x ≡ both (outcome part (b .left) (x .left)) (outcome part (b .right) (x .right)) =
           pair-steps ∙ each .1 ∙ (λ i. both (sym l i) (sym r i)) in
-          let ol : outcome part (b .left) (x .left) .sampled .outcome ≡ fifo.Taken left = ap (λ (a : single.After). a .sampled .outcome) l ∙ each .2 in
-          let or : outcome part (b .right) (x .right) .sampled .outcome ≡ fifo.Taken right = ap (λ (a : single.After). a .sampled .outcome) r ∙ each .3 in
+          let left-given : outcome part (b .left) (x .left) .sampled .outcome ≡ fifo.Taken left = ap (λ (a : single.After). a .sampled .outcome) l ∙ each .2 in
+          let right-given : outcome part (b .right) (x .right) .sampled .outcome ≡ fifo.Taken right = ap (λ (a : single.After). a .sampled .outcome) r ∙ each .3 in
           record {
             same = free-both part x (halvesOf b) (each .0) .2;
-            leftOutcome = ol;
-            rightOutcome = or;
-            leftNext = rw (whole, ol) refl;
-            rightNext = rw (whole, or) refl;
+            leftOutcome = left-given;
+            rightOutcome = right-given;
+            leftNext = rw (whole, left-given) refl;
+            rightNext = rw (whole, right-given) refl;
             answered = rw e refl;
           }
 

@@ -3,7 +3,7 @@ use Prim.Native.Nat.{ℕ}
 use mathlib.Core.Bool.{Bool, true}
 use mathlib.Core.List.{List, [], _∷_}
 use mathlib.Core.Logic.{_≢_}
-use mathlib.Core.Path.{_≡_, refl, sym, ap, subst, _∙_}
+use mathlib.Core.Path.{_≡_, refl, subst, _∙_}
 use lib.ListN.{take}
 use native.Mathlib.Nat.{zero-add}
 use native.Mathlib.Omega.{arith}
@@ -12,9 +12,7 @@ use Rattle.counts.specs.Part.{numberOf}
 use Rattle.counts.specs.PartLaws.{own-number}
 use Rattle.notes.specs.Fold.{begun, ended, started}
 use Rattle.notes.specs.ReachLaws.{Follows, cond-either, fold-follows, fold-number, leftBy}
-use Rattle.halves.specs.declared.state.Halves.{Halves}
 use Rattle.pair.specs.Sample.{After}
-use Rattle.halves.specs.Two.{Two}
 use Rattle.pair_runs.specs.Run.{fitting, runOf}
 use Rattle.pair_work.specs.declared.samples.Sample.{Sample}
 use Rattle.pair_work.specs.declared.samples.Sample.the-variants.{Whole, Leftover, End}

@@ -1,6 +1,4 @@
 // A figure's line: part, mode and name of the case, a blank, and the outcome.
-ghost use Prim.Native.Nat.{_≤_};
-ghost use lib.ListN.{length};
 use super::rows;
 use fifo::sample::Outcome;
 

@@ -1,12 +1,11 @@
 -- What a user of the part goes by and has of it: the flags that allow a write and a read, and how many words were taken.
 use Prim.Native.Nat.{ℕ, _+_}
 use mathlib.Core.Bool.{Bool, true, false, not, cond, _&&_}
-use mathlib.Core.List.{List, [], _∷_}
 use mathlib.Core.Path.{_≡_}
 use Rattle.counts.specs.declared.part.Part.{Part}
 use Rattle.pins.specs.Record.{pinsOf}
 use Rattle.history.specs.Onlooker.{full, outside, reads, ready}
-use Rattle.history.specs.Trace.{Moment, next, shownBy, takes}
+use Rattle.history.specs.Trace.{Moment, shownBy, takes}
 
 -- FF HIGH, or IR LOW
 abbrev pub ShowsRoom : Part → Moment → Type 0
@@ -24,8 +23,3 @@ module _ (part : Part) where
   -- from so many words taken since the last reset, how many they are after a sample; a retransmit clears nothing of it
   unfoldable pub takenNext : Moment → ℕ → ℕ → ℕ
   takenNext m x n = cond (takes part m x && not (outside (pinsOf x))) 0 (cond (readsWord m x) (n + 1) n)
-
-  -- and after many
-  unfoldable pub takenLed : Moment → List ℕ → ℕ → ℕ
-  takenLed m [] n = n
-  takenLed m (x ∷ xs) n = takenLed (next part m x) xs (takenNext m x n)

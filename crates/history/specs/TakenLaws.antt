@@ -28,10 +28,6 @@ module _ (part : Part) (m : Moment) (x : ℕ) where
   unfolding next takes
   notes-taken e = rw e refl
 
-  pub notes-refused : takes part m x ≡ false → next part m x .notes ≡ m .notes
-  unfolding next takes
-  notes-refused e = rw e refl
-
 -- at a moment reached from power-up, the whole of it
 module _ (part : Part) (m : Moment) (t : TrueCounts) (g : Told part m t) (x : ℕ) where
   abbrev afterBy : Bool → After

@@ -1,6 +1,6 @@
 -- The composite flags, sentence by sentence, and the timing mode that they go by.
 use Prim.Native.Nat.{ℕ}
-use mathlib.Core.Bool.{Bool, true, false, not, cond, _&&_, _||_, and-eq-true-iff, true≢false}
+use mathlib.Core.Bool.{Bool, true, false, cond, _||_, and-eq-true-iff, true≢false}
 use mathlib.Core.Logic.{_↔_}
 use mathlib.Core.Path.{_≡_, refl}
 use Rattle.chip.specs.Reset.{selectedMode}
@@ -8,21 +8,11 @@ use Rattle.chip.specs.ResetLaws.{isFwft, selected-fwft}
 use Rattle.pins.specs.Record.{bit, pinsOf}
 use Rattle.sides.specs.declared.read.Mode.{Mode}
 use Rattle.sides.specs.declared.read.Mode.the-variants.{Standard, Fwft}
-use Rattle.joint.specs.Composite.{compositeOf, level, modeNext}
+use Rattle.joint.specs.Composite.{compositeOf, modeNext}
 
 or-low : (left right : Bool) → (left || right ≡ false) ↔ ((left ≡ false) × (right ≡ false))
 or-low true right = (λ e. absurd (true≢false e), λ e. e .0)
 or-low false right = (λ e. (refl, e), λ e. e .1)
-
--- a flag's level allows what it stands for: FF a write, EF a read where HIGH, IR and OR where LOW
-abbrev pub allows : Mode → Bool → Bool
-allows Standard high = high
-allows (Fwft untaken) high = not high
-
-allows-both : (mode : Mode) (left right : Bool) → allows mode (level mode left right) ≡ allows mode left && allows mode right
-allows-both Standard left right = refl
-allows-both (Fwft untaken) true right = refl
-allows-both (Fwft untaken) false right = refl
 
 module _ (left right : ℕ) where
   pub standard-ff : (compositeOf Standard left right .ff ≡ true) ↔ ((bit 23 left ≡ true) × (bit 23 right ≡ true))
@@ -40,15 +30,6 @@ module _ (left right : ℕ) where
   pub fwft-or : (untaken : Bool) → (compositeOf (Fwft untaken) left right .ef ≡ false) ↔ ((bit 22 left ≡ false) × (bit 22 right ≡ false))
   unfolding compositeOf
   fwft-or untaken = or-low (bit 22 left) (bit 22 right)
-
-  -- so the composite shows room, and a word ready, exactly where both parts do
-  pub room-both : (mode : Mode) → allows mode (compositeOf mode left right .ff) ≡ allows mode (bit 23 left) && allows mode (bit 23 right)
-  unfolding compositeOf
-  room-both mode = allows-both mode (bit 23 left) (bit 23 right)
-
-  pub word-both : (mode : Mode) → allows mode (compositeOf mode left right .ef) ≡ allows mode (bit 22 left) && allows mode (bit 22 right)
-  unfolding compositeOf
-  word-both mode = allows-both mode (bit 22 left) (bit 22 right)
 
 selected-by : (mrs fwft : Bool) (mode : Mode) → isFwft (cond mrs mode (selectedMode fwft)) ≡ cond mrs (isFwft mode) fwft
 selected-by true fwft mode = refl

@@ -4,7 +4,7 @@ use mathlib.Core.Bool.{true}
 use mathlib.Core.Path.{_≡_, sym, ap, _∙_}
 use lib.Dec.{eqb}
 use lib.Pow.{shr-shr}
-use borrow.Author.Tests.{eqb-true}
+use borrow.Author.Tests.{eq-eqb, eqb-true}
 use Rattle.pins.specs.declared.record.Pins.{Pins}
 use Rattle.pins.specs.declared.record.Skew.{Skew}
 use Rattle.pins.specs.Record.{bit, pinsOf}
@@ -27,6 +27,10 @@ withOwn skew d p = record {
   skew = skew;
   d = d;
 }
+
+-- D, both skew marks and bit 18 may differ
+pub others-free : (x y : ℕ) → x / 2 ^ 21 ≡ y / 2 ^ 21 → samePins x y ≡ true
+others-free x y e = eq-eqb (x / 2 ^ 21) (y / 2 ^ 21) e
 
 same-bit : (x y j : ℕ) → x / 2 ^ 21 ≡ y / 2 ^ 21 → bit (21 + j) y ≡ bit (21 + j) x
 same-bit x y j e = ap (λ (above : ℕ). eqb (above % 2) 1) (sym (shr-shr y 21 j) ∙ ap (λ (above : ℕ). above / 2 ^ j) (sym e) ∙ shr-shr x 21 j)

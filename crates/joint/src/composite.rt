@@ -18,7 +18,7 @@ pub fn compose(mode: Mode, left: u32, right: u32) -> Composite
     }
 }
 
-// The flag stands lowest in each answer so moved.
+// Each answer comes shifted so that the flag is its lowest bit.
 fn level_of(mode: Mode, left: u32, right: u32) -> bool
     ensures { λ r. ⌜ r ≡ level mode (isOdd left) (isOdd right) ⌝ }
 {

@@ -5,7 +5,7 @@ ghost use lib.ListN.{length};
 ghost use mathlib.Core.Path.{_≡_};
 use text::bytes;
 
-// Those of the record with an index in the chunk.
+// The flags of the record at index `i` of the chunk.
 pub fn note(flags: &mut [u8], i: usize, first: bool, second: bool)
     requires { ⌜ i * 2 + 2 ≤ length (now flags) ⌝ }
     ensures { λ _. ⌜ now (flags .exit) ≡ noted (now (flags .entry)) i first second ⌝ }

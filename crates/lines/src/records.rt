@@ -17,7 +17,7 @@ pub enum Layout {
     FlagsAndTwoAnswers,
 }
 
-// All lines of a chunk, whose first record has the index `base`, in one write; whether it was taken.
+// All lines of a chunk, whose first record has the index `base`, in one write. What comes back is whether somebody took the lines.
 pub fn print_records(
     room: &mut [u8],
     base: u64,

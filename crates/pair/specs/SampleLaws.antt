@@ -19,7 +19,7 @@ use Rattle.fifo.specs.Sample as single
 use Rattle.fifo.specs.Sample.{answerIn, isDepth, recordRefusal, stepped, taken}
 use Rattle.fifo.specs.SampleLaws as single-laws
 use Rattle.pins.specs.Record.{pinsOf}
-use Rattle.pair.specs.declared.sample.Outcome.the-variants.{Taken, Refused}
+use Rattle.pair.specs.declared.sample.Outcome.the-variants.{Taken}
 use Rattle.halves.specs.declared.state.Halves.{Halves}
 use Rattle.joint.specs.Refuse.{samePins}
 use Rattle.halves.specs.Refuse.{pairRefusal}
@@ -59,16 +59,11 @@ module _ (h : Halves) (memory : Two (List ℕ)) where
   by-tests true false n = turned 3 refl
   by-tests false passed n = turned 2 refl
 
-  pub refused-by : {number : ℕ} {a : After} → Numbered number a h memory → (found : ℕ) → a .sampled .outcome ≡ Refused found → a ≡ turnedAway found h memory
-  refused-by {number} {a} n found e =
-      let same : number ≡ found = sym (n .told) ∙ ap numberOf e in
-      rw (← same) (n .still (λ none. true≢false (sym (n .takes ∙ eq-eqb number 0 none) ∙ ap isTaken e)))
-
 pub single-taken : (part : Part) (x : ℕ) (s : State) (memory : List ℕ) → recordRefusal part x s ≡ 0 → stepped part x s memory ≡ taken part (pinsOf x) s memory
 unfolding stepped
 single-taken part x s memory e = simp (eq-eqb _ _ e)
 
-pub single-answer : (part : Part) (x : ℕ) (s : State) (memory : List ℕ) → recordRefusal part x s ≡ 0
+single-answer : (part : Part) (x : ℕ) (s : State) (memory : List ℕ) → recordRefusal part x s ≡ 0
     → stepped part x s memory .sampled .outcome ≡ fifo.Taken (answerIn (stepped part x s memory .sampled .outcome))
 unfolding taken
 single-answer part x s memory e = simp (single-taken part x s memory e)
@@ -102,10 +97,7 @@ module _ (part : Part) (x : Two ℕ) (h : Halves) where
         by-refusal h memory (eqb (pairRefusal part x h) 0) (pairRefusal part x h)
         (stepped part (x .left) (h .left) (memory .left)) (stepped part (x .right) (h .right) (memory .right)) refl
 
-    pub refused-still : (number : ℕ) → pairStepped part x h memory .sampled .outcome ≡ Refused number → pairStepped part x h memory ≡ turnedAway number h memory
-    refused-still = refused-by h memory step-numbered
-
-    -- what holds of both parts' own steps where the sample is taken, and of what was, holds of what comes
+    -- a property of both parts' own steps, where the sample is taken, and of the refusal, where it is not, is one of the pair's step
     pub step-by : (P : After → Type 0) → (pairRefusal part x h ≡ 0 → P eachStepped) → P (turnedAway (pairRefusal part x h) h memory)
         → P (pairStepped part x h memory)
     unfolding pairStepped

@@ -1,6 +1,6 @@
 -- Two records that are never refused and move only the clocks' levels.
 use Prim.Native.Nat.{ℕ}
-use mathlib.Core.Bool.{true, _&&_}
+use mathlib.Core.Bool.{true}
 use mathlib.Core.List.{List}
 use mathlib.Core.Path.{_≡_, _∙_}
 use Rattle.counts.specs.declared.part.Part.{Part}
@@ -15,27 +15,27 @@ use Rattle.pair.specs.SampleLaws.{step-both}
 use Rattle.pair.specs.Still.{heldBoth, stillBoth}
 use Rattle.halves.specs.Two.{Two}
 
-record Apart (x : Two ℕ) (h : Halves) : Type 0 where
+record StillEach (x : Two ℕ) (h : Halves) : Type 0 where
   pins : samePins (x .left) (x .right) ≡ true
   left : still (x .left) (h .left) ≡ true
   right : still (x .right) (h .right) ≡ true
 
-apart : (x : Two ℕ) (h : Halves) → stillBoth x h ≡ true → Apart x h
+still-each : (x : Two ℕ) (h : Halves) → stillBoth x h ≡ true → StillEach x h
 unfolding stillBoth
-apart x h e =
+still-each x h e =
     let all = both _ _ e in
     let first = both _ _ (all .0) in
     record { pins = first .0; left = first .1; right = all .1 }
 
 module _ (part : Part) (x : Two ℕ) (h : Halves) (e : stillBoth x h ≡ true) where
-  pub still-free-both : pairRefusal part x h ≡ 0
+  still-free-both : pairRefusal part x h ≡ 0
   unfolding pairRefusal
   still-free-both =
-      let a = apart x h e in
+      let a = still-each x h e in
       simp (a .pins, still-free part (x .left) (h .left) (a .left), still-free part (x .right) (h .right) (a .right))
 
   pub still-stepped-both : (memory : Two (List ℕ)) → pairStepped part x h memory ≡ record { sampled = heldBoth part x h; memory = memory }
   still-stepped-both memory =
-      let a = apart x h e in
+      let a = still-each x h e in
       step-both part x h memory still-free-both
       ∙ simp (still-stepped part (x .left) (h .left) (memory .left) (a .left), still-stepped part (x .right) (h .right) (memory .right) (a .right))

@@ -62,6 +62,6 @@ samples-split u v whole e many =
     let right : (whole + i) * 8 + 4 ≡ length u + (i * 8 + 4) = omega arith in
     rw (right, left) (λ j. two (word-second u v (i * 8) j) (word-second u v (i * 8 + 4) j))))
 
--- What counts as an answer proved
+-- What counts as an answer proved: two samples that meet the promise are the same.
 pub sample-unique : (trace : List ℕ) (index : ℕ) (a b : Sample) → Reads trace index a → Reads trace index b → a ≡ b
 sample-unique trace index a b f g = f .result ∙ sym (g .result)

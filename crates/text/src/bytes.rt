@@ -17,7 +17,7 @@ pub fn put_text(room: &mut [u8], at: usize, text: &[u8]) -> usize
     at + text.len()
 }
 
-// A store of its own, so that the room's length needs no words where several follow each other.
+// A function of its own, since its promise keeps the room's length: who stores several bytes need not show that each time.
 pub fn put_byte(room: &mut [u8], at: usize, byte: u8)
     requires { ⌜ at < length (now room) ⌝ }
     ensures { λ _. ⌜ now (room .exit) ≡ set (now (room .entry)) at byte ⌝ }

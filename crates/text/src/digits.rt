@@ -28,6 +28,6 @@ fn hex_digit(value: u8) -> u8
     requires { ⌜ value < 16 ⌝ }
     ensures { λ r. ⌜ r ≡ hexDigit value ⌝ }
 {
-    // 55 and ten are A.
+    // 55 + 10 is the code of A.
     if value < 10 { b'0' + value } else { 55 + value }
 }

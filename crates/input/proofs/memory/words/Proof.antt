@@ -3,7 +3,7 @@ use native.Mathlib.Omega.{arith}
 use Prim.Native.Nat.{ℕ, _≤_}
 use mathlib.Core.Path.{_≡_, _∙_, ap, sym}
 use Rattle.counts.specs.declared.part.Lookup.{Lookup}
-use Rattle.counts.specs.declared.part.Lookup.the-variants.{Known, Unknown}
+use Rattle.counts.specs.declared.part.Lookup.the-variants.{Known}
 use Rattle.counts.specs.declared.part.Part.{Part}
 use Rattle.counts.specs.Part.{byPart, depthOf, partOf}
 use Rattle.counts.specs.PartLaws.{deepest}
