@@ -12,6 +12,8 @@ use Rattle.fifo.specs.declared.sample.Outcome.the-variants as fifo
 use Rattle.notes.specs.Fold.{started}
 use Rattle.pair.specs.declared.sample.Outcome.the-variants.{Taken}
 use Rattle.pair.specs.Sample as pair
+use Rattle.halves.specs.declared.state.Halves.{Halves}
+use Rattle.halves.specs.State.{PoweredUp}
 use Rattle.halves.specs.Two.{Two}
 use Rattle.pair_runs.specs.Run.{runOf}
 use Rattle.pair_work.specs.Samples.{samplesFrom, wholeSamples}
@@ -40,6 +42,11 @@ pub record AnswersAsPart (part : Part) (memory records : List ℕ) (half : Momen
   pub same : outcome part (led part (powerUp memory) records) x .sampled .outcome ≡ fifo.Taken answer
   pub shown : Answers part (pinsOf x) (next part half x .state) answer
   pub inTime : TellsInTime part memory records x answer
+
+-- The pair's own power-up is where these moments begin.
+pub begins-powered : (memory : Two (List ℕ)) (h : Halves) → PoweredUp h → h ≡ halvesOf (poweredBoth memory)
+unfolding poweredBoth powerUp
+begins-powered memory h e = e
 
 is-part : (part : Part) (memory : List ℕ) → length memory ≡ depthOf part → (records : List ℕ) (half : Moment) → half ≡ led part (powerUp memory) records
     → IsPart part memory records half

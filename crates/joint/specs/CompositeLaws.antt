@@ -8,7 +8,8 @@ use Rattle.chip.specs.ResetLaws.{isFwft, selected-fwft}
 use Rattle.pins.specs.Record.{bit, pinsOf}
 use Rattle.sides.specs.declared.read.Mode.{Mode}
 use Rattle.sides.specs.declared.read.Mode.the-variants.{Standard, Fwft}
-use Rattle.joint.specs.Composite.{compositeOf, modeNext}
+use Rattle.joint.specs.declared.composite.Composite.{Composite}
+use Rattle.joint.specs.Composite.{Composes, ModeAfter, compositeOf, modeNext}
 
 or-low : (left right : Bool) → (left || right ≡ false) ↔ ((left ≡ false) × (right ≡ false))
 or-low true right = (λ e. absurd (true≢false e), λ e. e .0)
@@ -37,3 +38,10 @@ selected-by false fwft mode = selected-fwft fwft
 
 pub next-fwft : (mode : Mode) (x : ℕ) → isFwft (modeNext mode x) ≡ cond (pinsOf x .mrs) (isFwft mode) (pinsOf x .fwft)
 next-fwft mode x = selected-by (pinsOf x .mrs) (pinsOf x .fwft) mode
+
+-- What meets the promises: the composite flags of the two answers, and the mode that MRS, bit 31, and FWFT/SI, bit 22, leave.
+pub composed-told : (mode : Mode) (left right : ℕ) (r : Composite) → Composes mode left right r → r ≡ compositeOf mode left right
+composed-told mode left right r e = e
+
+pub mode-after-told : (mode : Mode) (x : ℕ) (r : Mode) → ModeAfter mode x r → isFwft r ≡ cond (bit 31 x) (isFwft mode) (bit 22 x)
+mode-after-told mode x r e = rw e (next-fwft mode x)

@@ -19,7 +19,7 @@ use Rattle.halves.specs.Two.{two}
 use Rattle.pins.specs.Answer.{putAnswer}
 use Rattle.pins.specs.Trace.{wordAt}
 use Rattle.pair_work.specs.FoldLaws.{samples-cut}
-use Rattle.pair_work.specs.Work.{Ended, Progress, turn, turned, worked}
+use Rattle.pair_work.specs.Work.{Ended, Progress, ranOf, turn, turned, worked}
 
 abbrev pub Ending : Bool → Part → List ℕ → ℕ → Ended → Type 0
 Ending lenient part bytes =
@@ -40,6 +40,10 @@ module _ (lenient : Bool) (index : ℕ) (a : After) (g : Progress) where
       → (noted lenient index (turn a) g .answers ≡ putAnswer (putAnswer (g .answers) (index * 2) left) (index * 2 + 1) right)
       × (noted lenient index (turn a) g .accepted ≡ g .accepted + 1)
   taken-noted left right e = rw e (refl, refl)
+
+-- what a run hands back of where it ended
+pub handed-back : (e : Ended) → (ranOf e .state ≡ e .progress .state) × (ranOf e .accepted ≡ e .progress .accepted) × (ranOf e .index ≡ e .index) × (ranOf e .refusal ≡ e .refusal)
+handed-back e = (refl, refl, refl, refl)
 
 pub six-bytes : (index left right : ℕ) (room : List ℕ) → let at = index * 6 in
     answersAfter (Taken left right) index room
