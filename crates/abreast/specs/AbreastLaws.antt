@@ -7,14 +7,14 @@ use lib.ListN.{length}
 use Rattle.counts.specs.declared.part.Part.{Part}
 use Rattle.pins.specs.declared.record.Pins.{Pins}
 use Rattle.pins.specs.declared.record.Skew.{Skew}
-use Rattle.pins.specs.Record.{pinsOf}
+use Rattle.pins.specs.Record.{pinsOf, withOwn}
 use Rattle.history.specs.Asked.{readsWord, takenNext}
 use Rattle.history.specs.Onlooker.{Notes, Shown, accepts, asksRead, asksWrite, full, noted, outside, reads, ready, wentOn}
 use Rattle.history.specs.TakenLaws.{notes-taken}
 use Rattle.history.specs.Trace.{Moment, next, shownBy}
 use Rattle.history.specs.WordLaws.{length-after}
 use Rattle.abreast.specs.Abreast.{Abreast, Records, RoomHeeded, TakenSame, WordHeeded}
-use Rattle.joint.specs.RefuseLaws.{same-pins, withOwn}
+use Rattle.joint.specs.RefuseLaws.{same-pins}
 
 -- what is asked happens in both where both flags allow it, and what is not asked in neither
 alike-where : (asked one two : Bool) → (asked ≡ true → one ≡ two) → asked && one ≡ asked && two
@@ -39,11 +39,11 @@ AbreastBy left right n k p q before beforeToo after afterToo =
     (noted right q beforeToo afterToo) (cond (not (outside q)) 0 (cond (reads right q beforeToo) (k + 1) k))
 
 -- the notes through a sample of these pins, for the right part with marks and D of its own, by what each is shown before and after it
-module _ (left right : Notes) (n k : ℕ) (like : Abreast left n right k) (p : Pins) (skew : Skew) (d : ℕ) (before beforeToo after afterToo : Shown)
+module _ (left right : Notes) (n k : ℕ) (like : Abreast left n right k) (p : Pins) (skew : Skew) (unsettled : Bool) (d : ℕ) (before beforeToo after afterToo : Shown)
     (room : asksWrite left p ≡ true → (full (left .fwft) before ≡ false) × (full (right .fwft) beforeToo ≡ false))
     (word : asksRead left p ≡ true → (ready (left .fwft) before ≡ true) × (ready (right .fwft) beforeToo ≡ true)) where
   abbrev q : Pins
-  q = withOwn skew d p
+  q = withOwn skew unsettled d p
 
   accepts-both : accepts left p before ≡ accepts right q beforeToo
   unfolding accepts
@@ -84,4 +84,4 @@ module _ (part : Part) (left right : Moment) (n k : ℕ) (like : Abreast (left .
       rw (notes-taken part left x (taken .0), notes-taken part right y (taken .1), taken .0, taken .1)
       (subst (λ (pins : Pins). AbreastBy (left .notes) (right .notes) n k (pinsOf x) pins (shownBy part (left .state)) (shownBy part (right .state))
       (shownBy part (next part left x .state)) (shownBy part (next part right y .state))) (sym (same-pins x y (taken .2)))
-      (abreast-noted (left .notes) (right .notes) n k like (pinsOf x) (pinsOf y .skew) (pinsOf y .d) _ _ _ _ room word))
+      (abreast-noted (left .notes) (right .notes) n k like (pinsOf x) (pinsOf y .skew) (pinsOf y .unsettled) (pinsOf y .d) _ _ _ _ room word))

@@ -1,6 +1,6 @@
 -- Each half of a pair is a part: what the pair's own sample leads to is what the single part's sample leads to, where the pair takes it.
 use Prim.Native.Nat.{ℕ}
-use mathlib.Core.Bool.{Bool, true, false, cond, _&&_, _||_, true≢false}
+use mathlib.Core.Bool.{Bool, true, false, cond, _&&_, true≢false}
 use mathlib.Core.List.{List, [], _∷_}
 use mathlib.Core.Logic.{_≢_}
 use mathlib.Core.Path.{_≡_, refl, sym, ap, subst, _∙_}
@@ -44,19 +44,18 @@ pub record Paired (part : Part) (b : Pairing) : Type 0 where
   pub right : Told part (b .right) rightCounts
   pub mode : b .left .notes .fwft ≡ b .right .notes .fwft
 
-not-three-by : (four same none : Bool) (left right : ℕ) → left ≢ 3 → right ≢ 3 → cond four 4 (cond same (cond none right left) 11) ≢ 3
-not-three-by true same none left right l r e = omega arith
-not-three-by false true true left right l r e = r e
-not-three-by false true false left right l r e = l e
-not-three-by false false none left right l r e = omega arith
+not-three-by : (same none : Bool) (left right : ℕ) → left ≢ 3 → right ≢ 3 → cond same (cond none right left) 11 ≢ 3
+not-three-by true true left right l r e = r e
+not-three-by true false left right l r e = l e
+not-three-by false none left right l r e = omega arith
 
 pub step-not-three : (part : Part) (x : Records) (h : Halves) (memory : Two (List ℕ)) → numberOf (pairStepped part x h memory .sampled .outcome) ≢ 3
 unfolding pairRefusal
 step-not-three part x h memory e =
     let left = recordRefusal part (x .left) (h .left) in
     let right = recordRefusal part (x .right) (h .right) in
-    not-three-by (eqb left 4 || eqb right 4) (samePins (x .left) (x .right)) (eqb left 0) left right (not-three part (x .left) (h .left))
-    (not-three part (x .right) (h .right)) (sym (step-numbered part x h memory .told) ∙ e)
+    not-three-by (samePins (x .left) (x .right)) (eqb left 0) left right (not-three part (x .left) (h .left)) (not-three part (x .right) (h .right))
+    (sym (step-numbered part x h memory .told) ∙ e)
 
 taken-by : (o : Outcome) → isTaken o ≡ true → o ≡ Taken (answersAfter o (two 0 0) .left) (answersAfter o (two 0 0) .right)
 taken-by (Taken left right) e = refl

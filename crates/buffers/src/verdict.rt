@@ -69,7 +69,7 @@ pub fn is_still(word: u32, state: &[u8]) -> bool
     fifo::sample::is_still(word, spelling::state::read_state(state))
 }
 
-// 4 on bit 18, and 5 to 10.
+// 5 to 10, and 12.
 pub fn refuse(part: Part, word: u32, state: &[u8]) -> u32
     requires { ⌜ length (now state) ≡ stateBytes ⌝ }
     ensures { λ r. ⌜ r ≡ recordRefusal part word (stateIn (now (state .entry))) ⌝ }

@@ -36,7 +36,7 @@ taken part x s memory answer = took (advanced part (pinsOf x) (fetchedFrom part 
 abbrev pub turnedAway : ℕ → List ℕ → List ℕ → List ℕ → Called
 turnedAway number state memory answer = record { code = number; state = state; memory = memory; answer = answer }
 
--- 4 on bit 18 and 5 to 10, or the record taken
+-- 5 to 10 and 12, or the record taken
 abbrev pub decided : Bool → ℕ → Part → ℕ → List ℕ → List ℕ → List ℕ → Called
 decided free number part x state memory answer = cond free (taken part x (stateIn state) memory answer) (turnedAway number state memory answer)
 

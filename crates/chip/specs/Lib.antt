@@ -16,3 +16,4 @@ pub mod Levels
 pub mod Tells
 pub mod FlagLaws
 pub mod OffsetLaws
+pub mod SettledLaws

@@ -17,7 +17,7 @@ use Rattle.counts.specs.declared.part.Lookup.the-variants.{Known, Unknown}
 use Rattle.counts.specs.declared.part.Part.{Part}
 use Rattle.counts.specs.declared.part.Part.the-variants.{Idt72V255LA, Idt72V265LA}
 use Rattle.counts.specs.Part.{byPart, depthOf, partOf}
-use Rattle.pins.specs.Record.{bit, pinsOf}
+use Rattle.pins.specs.Record.{pinsOf}
 use Rattle.refusals.specs.Refuse.{refusalOf}
 use Rattle.fifo.specs.declared.sample.Outcome.the-variants.{Refused}
 use Rattle.fifo.specs.Sample.{After, answersAfter, fetchedFor, isDepth, isTaken, numberOf, recordRefusal, sampled, sampleRefusal, stepped, taken, took, turnedAway}
@@ -61,14 +61,10 @@ module _ (x : ℕ) (s : State) (words : ℕ) where
       three-comes fails = simp (known part, deep part words whole, fails)
 
       module _ (passed : passes part s ≡ true) where
-        pub four-comes : bit 18 x ≡ true → sampleRefusal (askedBy part) x s words ≡ 4
+        -- 5 to 10 and 12, or 0 where the sample is taken; a record that is a number is never 4
+        pub rest-by-pins : sampleRefusal (askedBy part) x s words ≡ refusalOf part (pinsOf x) s
         unfolding sampleRefusal recordRefusal
-        four-comes set = simp (known part, deep part words whole, passed, set)
-
-        -- 5 to 10, or 0 where the sample is taken
-        pub rest-by-pins : bit 18 x ≡ false → sampleRefusal (askedBy part) x s words ≡ refusalOf part (pinsOf x) s
-        unfolding sampleRefusal recordRefusal
-        rest-by-pins clear = simp (known part, deep part words whole, passed, clear)
+        rest-by-pins = simp (known part, deep part words whole, passed)
 
 -- what comes of a number: it is the outcome's, the sample is taken with 0 alone, and with another nothing moved
 pub record Numbered (number : ℕ) (a : After) (s : State) (memory : List ℕ) : Type 0 where

@@ -15,7 +15,7 @@ use Rattle.counts.specs.Part.{byPart, depthOf, partOf}
 use Rattle.counts.specs.Round.{placeOf}
 use Rattle.pins.specs.declared.record.Pins.{Pins}
 use Rattle.pins.specs.Answer.{putAnswer}
-use Rattle.pins.specs.Record.{bit, pinsOf}
+use Rattle.pins.specs.Record.{pinsOf}
 use Rattle.fifo.specs.declared.sample.Outcome.{Outcome}
 use Rattle.fifo.specs.declared.sample.Outcome.the-variants.{Taken, Refused}
 use Rattle.fifo.specs.declared.sample.Sampled.{Sampled}
@@ -57,9 +57,9 @@ fetchedFor part s memory = getD memory (placeOf (depthOf part) (s .read .count .
 unfoldable pub taken : Part → Pins → State → List ℕ → After
 taken part p s memory = took (advanced part p (fetchedFor part s memory) s) memory
 
--- 4 on bit 18, then 5 to 10 on the pins
+-- a record of four bytes is judged by its pins, D's mark among them
 unfoldable pub recordRefusal : Part → ℕ → State → ℕ
-recordRefusal part x s = cond (bit 18 x) 4 (refusalOf part (pinsOf x) s)
+recordRefusal part x s = refusalOf part (pinsOf x) s
 
 abbrev pub RefusesRecord : Part → ℕ → State → ℕ → Type 0
 RefusesRecord part x s r = r ≡ recordRefusal part x s

@@ -4,7 +4,6 @@ ghost use Rattle.chip.specs.Quiet.{held};
 ghost use Rattle.chip.specs.State.{widths};
 ghost use Rattle.fifo.specs.Sample.{Gives, Samples, Steps, RefusesRecord, isDepth, taken, took};
 ghost use Rattle.fifo.specs.Still.{still};
-ghost use Rattle.pins.specs.Record.{bit};
 ghost use mathlib.Core.Bool.{true};
 ghost use mathlib.Core.Path.{_≡_};
 use chip::advance::Advanced;
@@ -59,7 +58,7 @@ pub fn is_still(record: u32, state: State) -> bool
     ensures { λ r. ⌜ r ≡ still «record» state ⌝ }
 {
     let p = pins::record::decode(record);
-    !is_bit_18_set(record) & state.started & chip::quiet::is_quiet(p, state)
+    state.started & chip::quiet::is_quiet(p, state)
 }
 
 // What such a record gives.
@@ -92,21 +91,11 @@ pub fn is_depth(part: Part, words: usize) -> bool
     words == wide(counts::part::depth(part))
 }
 
-// The number, 4 to 10, of the first refusal that applies to a record of four bytes, or 0.
+// The number, 5 to 10 or 12, of the first refusal that applies to a record of four bytes, or 0.
 pub fn refuse_record(part: Part, record: u32, state: State) -> u8
     ensures { λ r. ⌜ RefusesRecord part «record» state r ⌝ }
 {
-    if is_bit_18_set(record) {
-        4
-    } else {
-        refusals::refuse::refusal(part, pins::record::decode(record), state)
-    }
-}
-
-fn is_bit_18_set(record: u32) -> bool
-    ensures { λ r. ⌜ r ≡ bit 18 «record» ⌝ }
-{
-    (record >> 18) % 2 == 1
+    refusals::refuse::refusal(part, pins::record::decode(record), state)
 }
 
 // What a record that is not refused gives.

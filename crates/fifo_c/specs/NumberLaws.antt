@@ -15,7 +15,7 @@ use Rattle.counts.specs.declared.part.Part.{Part}
 use Rattle.counts.specs.declared.part.Part.the-variants.{Idt72V255LA, Idt72V265LA}
 use Rattle.fifo.specs.NumberLaws.{askedBy}
 use Rattle.fifo.specs.Sample.{recordRefusal}
-use Rattle.pins.specs.Record.{bit, pinsOf}
+use Rattle.pins.specs.Record.{pinsOf}
 use Rattle.refusals.specs.Refuse.{refusalOf}
 use Rattle.spelling.specs.Spelling.{stateIn}
 use Rattle.call_work.specs.Work.{decided, taken, worked}
@@ -36,16 +36,12 @@ module _ (number : ℕ) (bytes state memory answer : List ℕ) where
   as-judged refusal e = simp e
 
   module _ (part : Part) (x : ℕ) (works : judged number bytes state (length memory) (length answer) ≡ Work part x) where
-    pub four-by-bit : bit 18 x ≡ true → called number bytes state memory answer .code ≡ 4
+    -- 5 to 10 and 12, or 0 where the record is taken
+    pub rest-by-pins : called number bytes state memory answer .code ≡ refusalOf part (pinsOf x) (stateIn state)
     unfolding called worked recordRefusal
-    four-by-bit set = simp (works, set)
-
-    -- 5 to 10, or 0 where the record is taken
-    pub rest-by-pins : bit 18 x ≡ false → called number bytes state memory answer .code ≡ refusalOf part (pinsOf x) (stateIn state)
-    unfolding called worked recordRefusal
-    rest-by-pins clear =
+    rest-by-pins =
         let refusal = refusalOf part (pinsOf x) (stateIn state) in
-        simp (works, clear) (taken-by part x state memory answer refusal (eqb refusal 0) refl)
+        simp works (taken-by part x state memory answer refusal (eqb refusal 0) refl)
 
 module _ (state : List ℕ) where
   pub power-up-gives-zero : length state ≡ 48 → powered state .code ≡ 0

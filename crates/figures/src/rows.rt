@@ -7,6 +7,8 @@ pub(crate) const PIN: u64 = 1 << 32;
 
 const MRS: u64 = PIN << 31;
 
+const PRS: u64 = PIN << 30;
+
 const WCLK: u64 = PIN << 29;
 
 const RCLK: u64 = PIN << 28;
@@ -25,7 +27,8 @@ const FWFT: u64 = PIN << 22;
 
 const OE: u64 = PIN << 21;
 
-pub(crate) const BIT_18: u64 = PIN << 18;
+// The mark that D was still moving.
+pub(crate) const UNSETTLED: u64 = PIN << 18;
 
 // All bits of a record but those of the two clocks.
 const CLOCKS_LOW: u32 = 0xCFFFFFFF;
@@ -109,6 +112,11 @@ pub(crate) const ONE: u64 = ZERO + FWFT;
 pub(crate) const READ_OFFSET: u64 = READ - LD + 1;
 
 pub(crate) const OUTPUT_OFF: u64 = IDLE + OE + 1;
+
+// A write asked in a Master Reset and in a Partial Reset, where nothing is asked.
+pub(crate) const RESET_AND_WRITE: u64 = RESET + WCLK - WEN;
+
+pub(crate) const PARTIAL_RESET_AND_WRITE: u64 = PUT - PRS;
 
 // Two that the part turns away: WEN beside the reading of an offset, and REN beside RT.
 pub(crate) const TWO_ENABLES: u64 = READ_OFFSET - WEN;

@@ -24,7 +24,7 @@ use Rattle.numerals.specs.Bytes.{wordsIn}
 use Rattle.buffers.specs.Memory.{memoryBytes}
 use Rattle.spelling.specs.Spelling.{stateBytes}
 use Rattle.spelling.specs.ReadBackLaws.{Spelled}
-use Rattle.pins.specs.Record.{bit, pinsOf}
+use Rattle.pins.specs.Record.{bit, pinsOf, unsettledIn}
 use Rattle.pins.specs.Trace.{wordAt}
 use Rattle.history.specs.AnswerLaws.{answers-taken}
 use Rattle.history.specs.Asked.{ShowsWord}
@@ -36,6 +36,7 @@ use Rattle.history.specs.Onlooker.{lastOf, tellsReady}
 use Rattle.history.specs.RunAnswerLaws.{run-answers}
 use Rattle.history.specs.RunLaws.{led-parts, run-led, run-not-three}
 use Rattle.history.specs.Tight.{fwftReset, late-fwft, late-standard, risenThrice, risenTwice, standardReset, watched, wordWritten, zeros}
+use Rattle.history.specs.TakenLaws.{accepted-settled}
 use Rattle.history.specs.TimeLaws.{due-shown}
 use Rattle.history.specs.Trace.{Answers, Moment, acceptsWord, answerAt, at, led, next, outcome, powerUp, rclkRisesIn, runFrom, shownBy, takes, undisturbed, wordsFrom, workedAt, workedOn}
 
@@ -83,6 +84,11 @@ kept part memory whole samples =
       passesTest = reached-passes part _ _ (told .reached);
       neverThree = outcome-not-three part _ _ told;
     }
+
+-- Data that had not settled is never among the words accepted (paper 02, order 2), so that all of this is said of known words.
+pub at-rest : (part : Part) (memory : List ℕ) → length memory ≡ depthOf part → (samples : List ℕ) (x : ℕ)
+    → acceptsWord part (led part (powerUp memory) samples) x ≡ true → unsettledIn x ≡ false
+at-rest part memory whole samples = accepted-settled part (led part (powerUp memory) samples) _ (told-after part memory whole samples)
 
 -- The third rise of RCLK in Standard, the fourth in FWFT.
 pub in-time : InTime 3 4

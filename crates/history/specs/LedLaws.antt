@@ -1,6 +1,6 @@
 -- From power-up on, after any samples, the notes agree with the model.
 use Prim.Native.Nat.{ℕ}
-use mathlib.Core.Bool.{Bool, true, false, cond, _&&_}
+use mathlib.Core.Bool.{Bool, true, false, cond}
 use mathlib.Core.List.{List, [], _∷_}
 use mathlib.Core.Logic.{_≢_}
 use mathlib.Core.Path.{_≡_, refl, sym, subst}
@@ -12,7 +12,8 @@ use Rattle.chip.specs.declared.advance.Advanced.{Advanced}
 use Rattle.chip.specs.declared.state.State.{State}
 use Rattle.chip.specs.Advance.{advanced}
 use Rattle.refusals.specs.ReachLaws.{countsAfter, power-up-reached, reach-stays, reached-passes}
-use Rattle.refusals.specs.Refuse.{refusalOf, refusesEight, refusesFive, refusesNine, refusesSeven, refusesSix, refusesTen}
+use Rattle.refusals.specs.RefusalLaws.{numbers}
+use Rattle.refusals.specs.Refuse.{refusalOf}
 use Rattle.chip.specs.Reset.{cleared, poweredUp}
 use Rattle.counts.specs.declared.part.Part.{Part}
 use Rattle.counts.specs.Part.{depthOf, numberOf}
@@ -20,35 +21,18 @@ use Rattle.counts.specs.PartLaws.{own-number}
 use Rattle.fifo.specs.Sample as sample
 use Rattle.fifo.specs.Sample.{After, fetchedFor, isTaken, recordRefusal, stepped, taken, took, turnedAway}
 use Rattle.fifo.specs.SampleLaws.{sample-is-step}
-use Rattle.pins.specs.Record.{bit, pinsOf}
+use Rattle.pins.specs.Record.{pinsOf}
 use Rattle.views.specs.TrueCounts.{TrueCounts, noCounts}
 use Rattle.history.specs.Told.{Told}
 use Rattle.history.specs.ToldLaws.{agrees-after}
 use Rattle.history.specs.Trace.{Moment, led, movedTo, next, outcome, powerUp}
 
-none-of : (spare : Bool) (refusal : ℕ) → cond spare 4 refusal ≡ 0 → refusal ≡ 0
-none-of true refusal e = absurd (omega arith)
-none-of false refusal e = e
-
 -- of the numbers that a record can be refused with, none is 3
-not-three-by : (spare five outside six seven eight nine ten : Bool)
-    → _≢_ {A = ℕ} (cond spare 4 (cond five 5 (cond outside (cond six 6 (cond seven 7 (cond eight 8 (cond nine 9 (cond ten 10 0))))) 0))) 3
-not-three-by true five outside six seven eight nine ten e = omega arith
-not-three-by false true outside six seven eight nine ten e = omega arith
-not-three-by false false false six seven eight nine ten e = omega arith
-not-three-by false false true true seven eight nine ten e = omega arith
-not-three-by false false true false true eight nine ten e = omega arith
-not-three-by false false true false false true nine ten e = omega arith
-not-three-by false false true false false false true ten e = omega arith
-not-three-by false false true false false false false true e = omega arith
-not-three-by false false true false false false false false e = omega arith
-
 pub not-three : (part : Part) (x : ℕ) (s : State) → recordRefusal part x s ≢ 3
-unfolding recordRefusal refusalOf
+unfolding recordRefusal
 not-three part x s =
-    let p = pinsOf x in
-    not-three-by (bit 18 x) (refusesFive p s) (p .mrs && p .prs) (refusesSix p s) (refusesSeven p s) (refusesEight p s)
-    (refusesNine (depthOf part) p s) (refusesTen p s)
+    numbers (λ (n : ℕ). n ≢ 3) part (pinsOf x) s (λ e. omega arith) (λ e. omega arith) (λ e. omega arith) (λ e. omega arith) (λ e. omega arith)
+    (λ e. omega arith) (λ e. omega arith) (λ row e. omega arith)
 
 number-by : (is : Bool) (a : Advanced) (number : ℕ) (s : State) (memory : List ℕ) → number ≢ 3
     → sample.numberOf (cond is (took a memory) (turnedAway number s memory) .sampled .outcome) ≢ 3
@@ -82,7 +66,7 @@ module _ (part : Part) where
 
     not-refused : eqb (recordRefusal part x (m .state)) 0 ≡ true → refusalOf part (pinsOf x) (m .state) ≡ 0
     unfolding recordRefusal
-    not-refused e = none-of (bit 18 x) (refusalOf part (pinsOf x) (m .state)) (eqb-true _ _ e)
+    not-refused e = eqb-true _ _ e
 
     told-by : (is : Bool) → eqb (recordRefusal part x (m .state)) 0 ≡ is
         → let a = cond is (taken part (pinsOf x) (m .state) (m .memory)) (turnedAway (recordRefusal part x (m .state)) (m .state) (m .memory)) in

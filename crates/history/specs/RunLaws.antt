@@ -26,7 +26,7 @@ abbrev NotThree : Ended → Type 0
 NotThree e = e .refusal ≢ 3
 
 end-not-three : (r : Record) → trace.numberOf r ≢ 3
-end-not-three (Whole word) e = omega arith
+end-not-three (Whole word unsettled) e = omega arith
 end-not-three Leftover e = omega arith
 end-not-three End e = omega arith
 

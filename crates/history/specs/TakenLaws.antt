@@ -1,19 +1,22 @@
 -- Where a sample leads, by whether it is taken.
 use Prim.Native.Nat.{ℕ}
-use mathlib.Core.Bool.{Bool, true, false, cond, true≢false}
-use mathlib.Core.Path.{_≡_, refl, sym, subst}
+use mathlib.Core.Bool.{Bool, true, false, not, cond, _&&_, true≢false}
+use mathlib.Core.Path.{_≡_, refl, sym, subst, _∙_}
 use lib.Dec.{eqb}
+use borrow.Author.Tests.{eqb-true, not-true}
 use Rattle.chip.specs.Advance.{advanced, stored}
 use Rattle.counts.specs.declared.part.Part.{Part}
+use Rattle.counts.specs.Both.{both}
 use Rattle.fifo.specs.Sample.{After, fetchedFor, isTaken, recordRefusal, stepped, taken, turnedAway}
 use Rattle.pins.specs.declared.record.Pins.{Pins}
-use Rattle.pins.specs.Record.{pinsOf}
+use Rattle.pins.specs.Record.{pinsOf, unsettledIn}
 use Rattle.refusals.specs.ReachLaws.{countsAfter}
+use Rattle.refusals.specs.TwelveLaws.{word-settled}
 use Rattle.views.specs.TrueCounts.{TrueCounts}
 use Rattle.history.specs.LedLaws.{countsBy, countsNext, sample-steps}
-use Rattle.history.specs.Onlooker.{noted}
+use Rattle.history.specs.Onlooker.{accepts, asksWrite, noted, outside, wclkRises}
 use Rattle.history.specs.Told.{Told}
-use Rattle.history.specs.Trace.{Moment, at, movedTo, next, shownBy, takes}
+use Rattle.history.specs.Trace.{Moment, acceptsWord, at, movedTo, next, shownBy, takes}
 
 -- the moment that pins lead to which are not refused
 abbrev pub movedOn : Part → Moment → Pins → Moment
@@ -57,3 +60,17 @@ module _ (part : Part) (m : Moment) (t : TrueCounts) (g : Told part m t) (x : �
   pub takes-free : takes part m x ≡ eqb (recordRefusal part x (m .state)) 0
   unfolding takes stepped
   takes-free = rw (sample-steps part m t g x) (free-by (eqb (recordRefusal part x (m .state)) 0))
+
+  -- paper 02, order 2: a word that is accepted was at rest
+  pub accepted-settled : acceptsWord part m x ≡ true → unsettledIn x ≡ false
+  unfolding acceptsWord accepts recordRefusal
+  accepted-settled e =
+      let p = pinsOf x in
+      let accepted = both (takes part m x) _ e in
+      let asked = both (asksWrite (m .notes) p) _ (accepted .1) .0 in
+      let enabled = both (wclkRises (m .notes) p && p .ld) (not (p .wen)) asked in
+      let risen = both (wclkRises (m .notes) p) (p .ld) (enabled .0) .0 in
+      let rise = both (outside p) (not (m .notes .wclk) && p .wclk) risen in
+      let levels = both (not (m .notes .wclk)) (p .wclk) (rise .1) in
+      word-settled part p (m .state) (eqb-true _ _ (sym takes-free ∙ accepted .0)) (both (p .mrs) (p .prs) (rise .0))
+      (sym (g .agrees .wclk) ∙ not-true (m .notes .wclk) (levels .0), levels .1) (not-true (p .wen) (enabled .1))

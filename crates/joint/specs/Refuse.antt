@@ -1,9 +1,9 @@
--- Two parts side by side: what is turned away from 4 on, by the two records and the number that each part has for its own.
+-- Two parts side by side: what is turned away from 11 on, by the two records and the number that each part has for its own.
 use Prim.Native.Nat.{ℕ, _/_, _^_}
-use mathlib.Core.Bool.{Bool, cond, _||_}
+use mathlib.Core.Bool.{Bool, cond}
 use lib.Dec.{eqb}
 
--- every pin but D and the two skew marks: bits 31 to 21
+-- every pin but D and the marks: bits 31 to 21
 abbrev pub samePins : ℕ → ℕ → Bool
 samePins left right = eqb (left / 2 ^ 21) (right / 2 ^ 21)
 
@@ -11,6 +11,6 @@ samePins left right = eqb (left / 2 ^ 21) (right / 2 ^ 21)
 abbrev pub firstOf : ℕ → ℕ → ℕ
 firstOf left right = cond (eqb left 0) right left
 
--- 4 of either part, then 11, then all that the left part refuses before all that the right part does
+-- 11, then all that the left part refuses before all that the right part does
 abbrev pub numbered : Bool → ℕ → ℕ → ℕ
-numbered same left right = cond (eqb left 4 || eqb right 4) 4 (cond same (firstOf left right) 11)
+numbered same left right = cond same (firstOf left right) 11

@@ -5,30 +5,10 @@ use mathlib.Core.Path.{_≡_, sym, ap, _∙_}
 use lib.Dec.{eqb}
 use lib.Pow.{shr-shr}
 use borrow.Author.Tests.{eq-eqb, eqb-true}
-use Rattle.pins.specs.declared.record.Pins.{Pins}
-use Rattle.pins.specs.declared.record.Skew.{Skew}
-use Rattle.pins.specs.Record.{bit, pinsOf}
+use Rattle.pins.specs.Record.{bit, pinsOf, withOwn}
 use Rattle.joint.specs.Refuse.{samePins}
 
--- pins with skew marks and D of their own
-abbrev pub withOwn : Skew → ℕ → Pins → Pins
-withOwn skew d p = record {
-  mrs = p .mrs;
-  prs = p .prs;
-  wclk = p .wclk;
-  rclk = p .rclk;
-  wen = p .wen;
-  ren = p .ren;
-  ld = p .ld;
-  sen = p .sen;
-  rt = p .rt;
-  fwft = p .fwft;
-  oe = p .oe;
-  skew = skew;
-  d = d;
-}
-
--- D, both skew marks and bit 18 may differ
+-- D, its mark and both skew marks may differ
 pub others-free : (x y : ℕ) → x / 2 ^ 21 ≡ y / 2 ^ 21 → samePins x y ≡ true
 others-free x y e = eq-eqb (x / 2 ^ 21) (y / 2 ^ 21) e
 
@@ -36,7 +16,7 @@ same-bit : (x y j : ℕ) → x / 2 ^ 21 ≡ y / 2 ^ 21 → bit (21 + j) y ≡ bi
 same-bit x y j e = ap (λ (above : ℕ). eqb (above % 2) 1) (sym (shr-shr y 21 j) ∙ ap (λ (above : ℕ). above / 2 ^ j) (sym e) ∙ shr-shr x 21 j)
 
 -- where two records are not refused 11 they share every other pin
-pub same-pins : (x y : ℕ) → samePins x y ≡ true → pinsOf y ≡ withOwn (pinsOf y .skew) (pinsOf y .d) (pinsOf x)
+pub same-pins : (x y : ℕ) → samePins x y ≡ true → pinsOf y ≡ withOwn (pinsOf y .skew) (pinsOf y .unsettled) (pinsOf y .d) (pinsOf x)
 same-pins x y e =
     let at : (j : ℕ) → bit (21 + j) y ≡ bit (21 + j) x = λ j. same-bit x y j (eqb-true _ _ e) in
     λ i. record {
@@ -52,5 +32,6 @@ same-pins x y e =
       fwft = at 1 i;
       oe = at 0 i;
       skew = pinsOf y .skew;
+      unsettled = pinsOf y .unsettled;
       d = pinsOf y .d;
     }

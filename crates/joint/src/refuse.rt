@@ -1,4 +1,4 @@
-// What is turned away, from 4 on, of two records for two parts side by side.
+// What is turned away, from 11 on, of two records for two parts side by side.
 ghost use Rattle.joint.specs.Refuse.{numbered, samePins};
 ghost use mathlib.Core.Path.{_≡_};
 
@@ -6,16 +6,14 @@ ghost use mathlib.Core.Path.{_≡_};
 pub fn refusal(left: u32, right: u32, by_left: u8, by_right: u8) -> u8
     ensures { λ r. ⌜ r ≡ numbered (samePins left right) «by_left» «by_right» ⌝ }
 {
-    if (by_left == 4) | (by_right == 4) {
-        4
-    } else if is_same_pins(left, right) {
+    if is_same_pins(left, right) {
         if by_left == 0 { by_right } else { by_left }
     } else {
         11
     }
 }
 
-// D and the two skew marks stand below bit 21, every other pin from there on.
+// D and the marks stand below bit 21, every other pin from there on.
 pub fn is_same_pins(left: u32, right: u32) -> bool
     ensures { λ r. ⌜ r ≡ samePins left right ⌝ }
 {

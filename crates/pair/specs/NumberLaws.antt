@@ -1,4 +1,4 @@
--- Two parts side by side: which number one sample gets, in the order 1, 2, 3, 4, 11, the left part's own, the right part's own. Part numbers
+-- Two parts side by side: which number one sample gets, in the order 1, 2, 3, 11, the left part's own, the right part's own. Part numbers
 -- and depths stand in plain figures, so that a definition that says another is refused here.
 use Prim.Native.Nat.{ℕ, _/_, _^_}
 use mathlib.Core.Bool.{Bool, true, false, cond, and-false}
@@ -8,7 +8,7 @@ use borrow.Author.Tests.{ne-eqb}
 use Rattle.chip.specs.State.{passes}
 use Rattle.counts.specs.declared.part.Part.{Part}
 use Rattle.fifo.specs.NumberLaws.{askedBy, deep, known, not-deep, wordsIn}
-use Rattle.pins.specs.Record.{bit, pinsOf}
+use Rattle.pins.specs.Record.{pinsOf}
 use Rattle.refusals.specs.Refuse.{refusalOf}
 use Rattle.sides.specs.declared.read.Mode.the-variants.{Standard, Fwft}
 use Rattle.halves.specs.declared.state.Halves.{Halves}
@@ -61,30 +61,23 @@ module _ (x : Two ℕ) (h : Halves) (words : Two ℕ) where
         by-records : pairSampleRefusal (askedBy part) x h words ≡ pairRefusal part x h
         by-records = tested ∙ simp passed
 
-        pub four-by-left : bit 18 (x .left) ≡ true → pairSampleRefusal (askedBy part) x h words ≡ 4
-        four-by-left set = by-records ∙ refuse.four-by-left part x h set
+        pub eleven-comes : x .left / 2 ^ 21 ≢ x .right / 2 ^ 21 → pairSampleRefusal (askedBy part) x h words ≡ 11
+        eleven-comes n = by-records ∙ refuse.eleven-comes part x h n
 
-        pub four-by-right : bit 18 (x .right) ≡ true → pairSampleRefusal (askedBy part) x h words ≡ 4
-        four-by-right set = by-records ∙ refuse.four-by-right part x h set
+        module _ (same : x .left / 2 ^ 21 ≡ x .right / 2 ^ 21) where
+          by-parts : pairSampleRefusal (askedBy part) x h words ≡ firstOf (refusalOf part (pinsOf (x .left)) (h .left)) (refusalOf part (pinsOf (x .right)) (h .right))
+          by-parts = by-records ∙ refuse.then-by-parts part x h same
 
-        module _ (left-clear : bit 18 (x .left) ≡ false) (right-clear : bit 18 (x .right) ≡ false) where
-          pub eleven-comes : x .left / 2 ^ 21 ≢ x .right / 2 ^ 21 → pairSampleRefusal (askedBy part) x h words ≡ 11
-          eleven-comes n = by-records ∙ refuse.eleven-comes part x h left-clear right-clear n
+          -- 5 to 10 and 12 by the left part
+          pub left-comes : refusalOf part (pinsOf (x .left)) (h .left) ≢ 0
+              → pairSampleRefusal (askedBy part) x h words ≡ refusalOf part (pinsOf (x .left)) (h .left)
+          left-comes n = by-parts ∙ simp (ne-eqb (refusalOf part (pinsOf (x .left)) (h .left)) 0 n)
 
-          module _ (same : x .left / 2 ^ 21 ≡ x .right / 2 ^ 21) where
-            by-parts : pairSampleRefusal (askedBy part) x h words ≡ firstOf (refusalOf part (pinsOf (x .left)) (h .left)) (refusalOf part (pinsOf (x .right)) (h .right))
-            by-parts = by-records ∙ refuse.then-by-parts part x h left-clear right-clear same
+          -- 5 to 10 and 12 by the right part, or 0 where the sample is taken
+          pub right-comes : refusalOf part (pinsOf (x .left)) (h .left) ≡ 0
+              → pairSampleRefusal (askedBy part) x h words ≡ refusalOf part (pinsOf (x .right)) (h .right)
+          right-comes free = by-parts ∙ simp free
 
-            -- 5 to 10 by the left part
-            pub left-comes : refusalOf part (pinsOf (x .left)) (h .left) ≢ 0
-                → pairSampleRefusal (askedBy part) x h words ≡ refusalOf part (pinsOf (x .left)) (h .left)
-            left-comes n = by-parts ∙ simp (ne-eqb (refusalOf part (pinsOf (x .left)) (h .left)) 0 n)
-
-            -- 5 to 10 by the right part, or 0 where the sample is taken
-            pub right-comes : refusalOf part (pinsOf (x .left)) (h .left) ≡ 0
-                → pairSampleRefusal (askedBy part) x h words ≡ refusalOf part (pinsOf (x .right)) (h .right)
-            right-comes free = by-parts ∙ simp free
-
-            pub taken : refusalOf part (pinsOf (x .left)) (h .left) ≡ 0 → refusalOf part (pinsOf (x .right)) (h .right) ≡ 0
-                → pairSampleRefusal (askedBy part) x h words ≡ 0
-            taken left right = right-comes left ∙ right
+          pub taken : refusalOf part (pinsOf (x .left)) (h .left) ≡ 0 → refusalOf part (pinsOf (x .right)) (h .right) ≡ 0
+              → pairSampleRefusal (askedBy part) x h words ≡ 0
+          taken left right = right-comes left ∙ right

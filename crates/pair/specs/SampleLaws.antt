@@ -1,6 +1,6 @@
 -- Two parts side by side: a sample is taken by both or by neither, a refused one moves nothing, a taken one is both parts' own step.
 use Prim.Native.Nat.{ℕ}
-use mathlib.Core.Bool.{Bool, true, false, cond, _&&_, _||_, true≢false}
+use mathlib.Core.Bool.{Bool, true, false, cond, _&&_, true≢false}
 use mathlib.Core.List.{List}
 use mathlib.Core.Logic.{_≢_}
 use mathlib.Core.Path.{_≡_, refl, sym, ap, _∙_}
@@ -27,12 +27,11 @@ use Rattle.pair.specs.Sample.{After, both, isTaken, numberOf, pairSample
 use Rattle.halves.specs.State.{passesBoth}
 use Rattle.halves.specs.Two.{Two, two}
 
-free-by : (four same free : Bool) (left right : ℕ) → eqb left 0 ≡ free → cond four 4 (cond same (cond free right left) 11) ≡ 0
+free-by : (same free : Bool) (left right : ℕ) → eqb left 0 ≡ free → cond same (cond free right left) 11 ≡ 0
     → (left ≡ 0) × (right ≡ 0) × (same ≡ true)
-free-by true same free left right f e = absurd (omega arith)
-free-by false true true left right f e = (eqb-true left 0 f, e, refl)
-free-by false true false left right f e = absurd (true≢false (sym (eq-eqb left 0 e) ∙ f))
-free-by false false free left right f e = absurd (omega arith)
+free-by true true left right f e = (eqb-true left 0 f, e, refl)
+free-by true false left right f e = absurd (true≢false (sym (eq-eqb left 0 e) ∙ f))
+free-by false free left right f e = absurd (omega arith)
 
 taken-or-not : {A : Type 0} (P : A → Type 0) (free : Bool) (number : ℕ) (a b : A) → eqb number 0 ≡ free → (number ≡ 0 → P a) → P b → P (cond free a b)
 taken-or-not P true number a b e p q = p (eqb-true number 0 e)
@@ -73,8 +72,8 @@ module _ (part : Part) (x : Two ℕ) (h : Halves) where
       → (recordRefusal part (x .left) (h .left) ≡ 0) × (recordRefusal part (x .right) (h .right) ≡ 0) × (samePins (x .left) (x .right) ≡ true)
   unfolding pairRefusal
   free-both =
-      free-by (eqb (recordRefusal part (x .left) (h .left)) 4 || eqb (recordRefusal part (x .right) (h .right)) 4) (samePins (x .left) (x .right))
-      (eqb (recordRefusal part (x .left) (h .left)) 0) (recordRefusal part (x .left) (h .left)) (recordRefusal part (x .right) (h .right)) refl
+      free-by (samePins (x .left) (x .right)) (eqb (recordRefusal part (x .left) (h .left)) 0)
+      (recordRefusal part (x .left) (h .left)) (recordRefusal part (x .right) (h .right)) refl
 
   module _ (memory : Two (List ℕ)) where
     abbrev eachStepped : After

@@ -18,16 +18,16 @@ use Rattle.pins.specs.Answer.{given, packed}
 abbrev pub AtBit : ℕ → ℕ → Bool → Type 0
 AtBit x k level = (level ≡ true) ↔ (x / 2 ^ k % 2 ≡ 1)
 
-at-bit : (x k : ℕ) → AtBit x k (bit k x)
+pub at-bit : (x k : ℕ) → AtBit x k (bit k x)
 at-bit x k = (eqb-true _ _, eq-eqb _ _)
 
--- D is bits 17 to 0
+-- the mark of D is bit 18, D is bits 17 to 0
 pub pins-at : (x : ℕ) → let p = pinsOf x in
     AtBit x 31 (p .mrs) × AtBit x 30 (p .prs) × AtBit x 29 (p .wclk) × AtBit x 28 (p .rclk) × AtBit x 27 (p .wen) × AtBit x 26 (p .ren)
     × AtBit x 25 (p .ld) × AtBit x 24 (p .sen) × AtBit x 23 (p .rt) × AtBit x 22 (p .fwft) × AtBit x 21 (p .oe)
-    × AtBit x 20 (p .skew .write) × AtBit x 19 (p .skew .read) × (p .d ≡ x % 2 ^ 18)
+    × AtBit x 20 (p .skew .write) × AtBit x 19 (p .skew .read) × AtBit x 18 (p .unsettled) × (p .d ≡ x % 2 ^ 18)
 pins-at x =
-    let at = at-bit x in (at 31, at 30, at 29, at 28, at 27, at 26, at 25, at 24, at 23, at 22, at 21, at 20, at 19, refl)
+    let at = at-bit x in (at 31, at 30, at 29, at 28, at 27, at 26, at 25, at 24, at 23, at 22, at 21, at 20, at 19, at 18, refl)
 
 -- a level as a number
 abbrev digit : Bool → ℕ
@@ -103,18 +103,17 @@ one-lower k x sum e =
     let whole : above * 2 ^ suc k ≡ above * 2 * 2 ^ k = ap (λ (y : ℕ). above * y) (pow-succ' 2 k) ∙ sym (mul-assoc above 2 (2 ^ k)) in
     omega (arith, level-back k x)
 
--- the record of the pins, with bit 18 zero
+-- the record of the pins, the mark and D
 unfoldable pub recordOf : Pins → ℕ
 recordOf p =
     at 31 (p .mrs) + at 30 (p .prs) + at 29 (p .wclk) + at 28 (p .rclk) + at 27 (p .wen) + at 26 (p .ren) + at 25 (p .ld)
     + at 24 (p .sen) + at 23 (p .rt) + at 22 (p .fwft) + at 21 (p .oe) + at 20 (p .skew .write) + at 19 (p .skew .read)
-    + word (p .d)
+    + at 18 (p .unsettled) + word (p .d)
 
-pub record-again : (x : ℕ) → x < 2 ^ 32 → bit 18 x ≡ false → recordOf (pinsOf x) ≡ x
+pub record-again : (x : ℕ) → x < 2 ^ 32 → recordOf (pinsOf x) ≡ x
 unfolding recordOf
-record-again x h spare =
-    let n : x / 2 ^ 18 % 2 ≢ 1 = eqb-false _ _ spare in
+record-again x h =
     let top : at 31 (bit 31 x) ≡ x / 2 ^ 31 * 2 ^ 31 = omega (arith, one-lower 31 x 0 (omega arith)) in
-    let levels = one-lower 19 x _ (one-lower 20 x _ (one-lower 21 x _ (one-lower 22 x _ (one-lower 23 x _ (one-lower 24 x _
-    (one-lower 25 x _ (one-lower 26 x _ (one-lower 27 x _ (one-lower 28 x _ (one-lower 29 x _ (one-lower 30 x _ top))))))))))) in
+    let levels = one-lower 18 x _ (one-lower 19 x _ (one-lower 20 x _ (one-lower 21 x _ (one-lower 22 x _ (one-lower 23 x _ (one-lower 24 x _
+    (one-lower 25 x _ (one-lower 26 x _ (one-lower 27 x _ (one-lower 28 x _ (one-lower 29 x _ (one-lower 30 x _ top)))))))))))) in
     rw levels (omega arith)

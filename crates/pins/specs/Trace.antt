@@ -5,6 +5,7 @@ use mathlib.Core.List.{List, [], _∷_}
 use mathlib.Core.Path.{_≡_}
 use lib.Dec.{eqb, ltb}
 use lib.ListN.{getD, length}
+use Rattle.pins.specs.Record.{unsettledIn}
 use Rattle.pins.specs.declared.trace.Record.{Record}
 use Rattle.pins.specs.declared.trace.Record.the-variants.{Whole, Leftover, End}
 
@@ -22,12 +23,16 @@ wholeRecords trace = length trace / 4
 abbrev pub standing : {A : Type 0} → ℕ → ℕ → ℕ → A → A → A → A
 standing size bytes index whole leftover end = cond (ltb index (bytes / size)) whole (cond (eqb (bytes % size) 0) end leftover)
 
+-- a record, and its mark beside it
+abbrev pub marked : ℕ → Record
+marked x = Whole x (unsettledIn x)
+
 unfoldable pub recordAt : List ℕ → ℕ → Record
-recordAt trace index = standing 4 (length trace) index (Whole (wordAt trace (index * 4))) Leftover End
+recordAt trace index = standing 4 (length trace) index (marked (wordAt trace (index * 4))) Leftover End
 
 -- the number under which a run that finds this goes no further, 0 where nothing is wrong
 abbrev pub numberOf : Record → ℕ
-numberOf (Whole word) = 0
+numberOf (Whole word unsettled) = 0
 numberOf Leftover = 4
 numberOf End = 0
 

@@ -9,9 +9,11 @@ use lib.Seq.{getD-append-add}
 use borrow.Author.Tests.{le-ltb, ltb-true, ltb-false}
 use native.Mathlib.Nat.{add-zero, suc-add, zero-add}
 use native.Mathlib.Omega.{arith}
+use Rattle.pins.specs.Laws.{AtBit, at-bit}
+use Rattle.pins.specs.Record.{unsettledIn}
 use Rattle.pins.specs.declared.trace.Record.{Record}
 use Rattle.pins.specs.declared.trace.Record.the-variants.{Whole, Leftover, End}
-use Rattle.pins.specs.Trace.{Reads, itemsFrom, numberAt, numberOf, recordAt, recordNumber, recordsFrom, standing, wholeRecords, wordAt}
+use Rattle.pins.specs.Trace.{Reads, itemsFrom, marked, numberAt, numberOf, recordAt, recordNumber, recordsFrom, standing, wholeRecords, wordAt}
 
 -- what is told of each of the three that may stand at an index
 told-by : {A : Type 0} (there clean : Bool) (item leftover end : A) (isWhole : A → Bool) → isWhole item ≡ true → isWhole leftover ≡ false → isWhole end ≡ false
@@ -102,33 +104,41 @@ module _ (u v : List ℕ) where
       rw (third, second, first) (simp getD-append-add)
 
 abbrev pub isWhole : Record → Bool
-isWhole (Whole word) = true
+isWhole (Whole word unsettled) = true
 isWhole Leftover = false
 isWhole End = false
 
 pub whole-told : (trace : List ℕ) (index : ℕ) → isWhole (recordAt trace index) ≡ ltb index (wholeRecords trace)
 unfolding recordAt
-whole-told trace index = standing-whole 4 (length trace) index (Whole (wordAt trace (index * 4))) Leftover End isWhole refl refl refl
+whole-told trace index = standing-whole 4 (length trace) index (marked (wordAt trace (index * 4))) Leftover End isWhole refl refl refl
 
-word-by : (there clean : Bool) (word found : ℕ) → cond there (Whole word) (cond clean End Leftover) ≡ Whole found → word ≡ found
-word-by true clean word found e = cc
-word-by false true word found e = let z : _≡_ {A = ℕ} 0 1 = cc in absurd (omega arith)
-word-by false false word found e = let z : _≡_ {A = ℕ} 0 1 = cc in absurd (omega arith)
+marked-by : (there clean : Bool) (word found : ℕ) (unsettled : Bool) → cond there (marked word) (cond clean End Leftover) ≡ Whole found unsettled
+    → (word ≡ found) × (unsettledIn word ≡ unsettled)
+marked-by true clean word found unsettled e = (cc, cc)
+marked-by false true word found unsettled e = let z : _≡_ {A = ℕ} 0 1 = cc in absurd (omega arith)
+marked-by false false word found unsettled e = let z : _≡_ {A = ℕ} 0 1 = cc in absurd (omega arith)
 
-module _ (trace : List ℕ) (index : ℕ) {word : ℕ} (e : recordAt trace index ≡ Whole word) where
+module _ (trace : List ℕ) (index : ℕ) {word : ℕ} {unsettled : Bool} (e : recordAt trace index ≡ Whole word unsettled) where
   pub whole-below : index < wholeRecords trace
   whole-below = ltb-true index (wholeRecords trace) (sym (whole-told trace index) ∙ ap isWhole e)
 
-  pub whole-word : wordAt trace (index * 4) ≡ word
+  as-read : (wordAt trace (index * 4) ≡ word) × (unsettledIn (wordAt trace (index * 4)) ≡ unsettled)
   unfolding recordAt
-  whole-word = word-by (ltb index (wholeRecords trace)) (eqb (length trace % 4) 0) (wordAt trace (index * 4)) word e
+  as-read = marked-by (ltb index (wholeRecords trace)) (eqb (length trace % 4) 0) (wordAt trace (index * 4)) word unsettled e
+
+  pub whole-word : wordAt trace (index * 4) ≡ word
+  whole-word = as-read .0
+
+  -- the mark handed back is bit 18 of the record handed back
+  pub whole-mark : AtBit word 18 unsettled
+  whole-mark = rw (← as-read .1, as-read .0) (at-bit word 18)
 
 pub none-whole : (trace : List ℕ) (index : ℕ) → isWhole (recordAt trace index) ≡ false → wholeRecords trace ≤ index
 none-whole trace index e = ltb-false index (wholeRecords trace) (sym (whole-told trace index) ∙ e)
 
 pub number-told : (trace : List ℕ) (index : ℕ) → numberOf (recordAt trace index) ≡ recordNumber trace index
 unfolding recordAt
-number-told trace index = standing-number 4 (length trace) index (Whole (wordAt trace (index * 4))) Leftover End numberOf refl refl refl
+number-told trace index = standing-number 4 (length trace) index (marked (wordAt trace (index * 4))) Leftover End numberOf refl refl refl
 
 pub end-told : (trace : List ℕ) → numberOf (recordAt trace (wholeRecords trace)) ≡ cond (eqb (length trace % 4) 0) 0 4
 end-told trace = number-told trace (wholeRecords trace) ∙ past-all 4 (length trace)

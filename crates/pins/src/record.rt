@@ -1,5 +1,5 @@
-// Trace sample, its first paragraph: the levels of the pins and D in a record.
-ghost use Rattle.pins.specs.Record.{isWord, pinsOf, word};
+// Trace sample, its first paragraph: the levels of the pins, D and the mark that D was still moving, in a record.
+ghost use Rattle.pins.specs.Record.{isWord, pinsOf, unsettledIn, word};
 ghost use mathlib.Core.Path.{_≡_};
 
 // Whether the skew time was met, should that side's clock rise in this sample.
@@ -8,7 +8,7 @@ pub struct Skew {
     pub read: bool,
 }
 
-// HIGH is true. `fwft` is the pin FWFT/SI.
+// HIGH is true. `fwft` is the pin FWFT/SI. `unsettled` is no pin: it marks a D that was still moving.
 pub struct Pins {
     pub mrs: bool,
     pub prs: bool,
@@ -22,6 +22,7 @@ pub struct Pins {
     pub fwft: bool,
     pub oe: bool,
     pub skew: Skew,
+    pub unsettled: bool,
     pub d: u32,
 }
 
@@ -44,8 +45,15 @@ pub fn decode(record: u32) -> Pins
             write: (record >> 20) % 2 == 1,
             read: (record >> 19) % 2 == 1,
         },
+        unsettled: is_unsettled(record),
         d: low_word(record),
     }
+}
+
+pub fn is_unsettled(record: u32) -> bool
+    ensures { λ r. ⌜ r ≡ unsettledIn «record» ⌝ }
+{
+    (record >> 18) % 2 == 1
 }
 
 pub fn low_word(x: u32) -> u32

@@ -4,9 +4,10 @@ ghost use Rattle.pins.specs.Trace.{Reads, joined, wordAt};
 ghost use lib.ListN.{length};
 ghost use mathlib.Core.Path.{_≡_};
 
-// What stands at an index of a trace: a whole record, the bytes left over after the last one, or nothing more.
+// What stands at an index of a trace: a whole record with the mark that its D was still moving, the bytes left over after the
+// last one, or nothing more.
 pub enum Record {
-    Whole(u32),
+    Whole(u32, bool),
     Leftover,
     End,
 }
@@ -15,7 +16,8 @@ pub fn record_at(trace: &[u8], index: usize) -> Record
     ensures { λ r. ⌜ Reads (now (trace .entry)) index r ⌝ }
 {
     if index < trace.len() / 4 {
-        Record::Whole(word_at(trace, index * 4))
+        let record = word_at(trace, index * 4);
+        Record::Whole(record, super::record::is_unsettled(record))
     } else if trace.len() % 4 == 0 {
         Record::End
     } else {

@@ -1,11 +1,12 @@
-// What stands at each index of a trace: first where two bytes are left over after the last record, then where none are.
+// What stands at each index of a trace: first where two bytes are left over after the last record, then where none are. A record
+// whose D was still moving is marked.
 use pins::trace::Record;
 
 fn print_found(found: Record) {
     match found {
-        Record::Whole(word) => {
+        Record::Whole(word, unsettled) => {
             io::print_hex(1, word as u64, 8);
-            io::write_all(1, b"\n");
+            print_mark(unsettled);
         }
         Record::Leftover => {
             io::write_all(1, b"leftover\n");
@@ -13,6 +14,14 @@ fn print_found(found: Record) {
         Record::End => {
             io::write_all(1, b"end\n");
         }
+    }
+}
+
+fn print_mark(unsettled: bool) {
+    if unsettled {
+        io::write_all(1, b" unsettled\n");
+    } else {
+        io::write_all(1, b"\n");
     }
 }
 

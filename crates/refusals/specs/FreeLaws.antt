@@ -9,10 +9,10 @@ use Rattle.sides.specs.Read.{retransmits}
 use Rattle.chip.specs.declared.state.State.{State}
 use Rattle.chip.specs.Quiet.{clockRises, quiet}
 use Rattle.chip.specs.QuietLaws.{NoRise, no-rise}
-use Rattle.refusals.specs.Refuse.{fromSix, refusalOf, refusesEight, refusesFive, refusesNine, refusesSeven, refusesSix, refusesTen}
+use Rattle.refusals.specs.Refuse.{fromSix, refusalOf, refusesEight, refusesFive, refusesNine, refusesSeven, refusesSix, refusesTen, refusesTwelve}
 
 none-refused : (part : Part) (p : Pins) (s : State) → NoRise p s → fromSix part p s ≡ 0
-unfolding refusesSix refusesSeven refusesEight refusesNine refusesTen retransmits
+unfolding refusesSix refusesSeven refusesEight refusesNine refusesTen refusesTwelve retransmits
 none-refused part p s e = simp (e .write, e .read)
 
 past-by : (outside rises : Bool) (number : ℕ) → (rises ≡ false → number ≡ 0) → cond outside number 0 ≡ cond (outside && rises) number 0
@@ -31,7 +31,7 @@ quiet-free part p s started e =
     let calm = not-true (clockRises p s) (and-eq-true-iff (p .mrs && p .prs) (not (clockRises p s)) .0 e .1) in
     simp (past-five part p s (simp started), calm, and-false)
 
--- 6 to 10 do not apply in a reset
+-- 6 to 12 do not apply in a reset
 pub reset-taken : (part : Part) (p : Pins) (s : State) → s .started ≡ true → p .mrs && p .prs ≡ false → refusalOf part p s ≡ 0
 unfolding refusalOf
 reset-taken part p s f e = simp (f, e)

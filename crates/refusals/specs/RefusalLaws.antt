@@ -1,10 +1,11 @@
--- What is turned away: what a sample that is taken outside reset does not ask for.
+-- What is turned away: which numbers there are, and what a sample that is taken outside reset does not ask for.
 use Prim.Native.Nat.{ℕ, suc, _-_, _<_}
-use mathlib.Core.Bool.{Bool, true, false, _&&_, and-eq-true-iff}
+use mathlib.Core.Bool.{Bool, true, false, cond, _&&_, and-eq-true-iff}
 use mathlib.Core.Logic.{inl, inr}
 use mathlib.Core.Path.{_≡_, refl, sym}
 use native.Mathlib.Omega.{arith}
 use Rattle.counts.specs.declared.part.Part.{Part}
+use Rattle.counts.specs.Either.{either}
 use Rattle.counts.specs.Part.{depthOf}
 use Rattle.counts.specs.Sized.{part-sized}
 use Rattle.pins.specs.declared.record.Pins.{Pins}
@@ -15,9 +16,28 @@ use Rattle.sides.specs.Tracks.{Allowed}
 use Rattle.views.specs.TrueCounts.{TrueCounts}
 use Rattle.chip.specs.declared.state.State.{State}
 use Rattle.chip.specs.Tells.{fails, high-where}
-use Rattle.refusals.specs.Refuse.{refusalOf, refusesTen}
+use Rattle.refusals.specs.Refuse.{fromEight, fromSix, fromTen, refusalOf, refusesEight, refusesFive, refusesNine, refusesSeven, refusesSix, refusesTen, refusesTwelve}
 use Rattle.refusals.specs.RowLaws.{first-row, retransmit, row-ten}
 use Rattle.refusals.specs.Rows.{Given, mostWords}
+
+last : (P : ℕ → Type 0) (row : Bool) (number : ℕ) → (row ≡ true → P number) → P 0 → P (cond row number 0)
+last P true number p none = p refl
+last P false number p none = none
+
+-- what holds of 0 and of each row's number holds of the number given
+pub numbers : (P : ℕ → Type 0) (part : Part) (p : Pins) (s : State) → P 0 → P 5 → P 6 → P 7 → P 8 → P 9 → P 10 → (refusesTwelve p s ≡ true → P 12)
+    → P (refusalOf part p s)
+unfolding refusalOf
+numbers P part p s none five six seven eight nine ten twelve =
+    either P (refusesFive p s) 5 _ five
+    (either P (p .mrs && p .prs) (fromSix part p s) 0
+    (either P (refusesSix p s) 6 _ six
+    (either P (refusesSeven p s) 7 (fromEight part p s) seven
+    (either P (refusesEight p s) 8 _ eight
+    (either P (refusesNine (depthOf part) p s) 9 (fromTen p s) nine
+    (either P (refusesTen p s) 10 _ ten
+    (last P (refusesTwelve p s) 12 twelve none))))))
+    none)
 
 -- a row that did not give the number does not hold
 passed : {Row Further : Type 0} {number : ℕ} → Given 0 (suc number) Row Further → (¬ Row) × Further

@@ -1,4 +1,4 @@
--- What is turned away: 5 to 10, in the table's order.
+-- What is turned away: 5 to 10, in the table's order, and 12 of paper 02, order 2.
 use Prim.Native.Nat.{ℕ, _+_, _-_}
 use mathlib.Core.Bool.{Bool, not, cond, _&&_, _||_}
 use mathlib.Core.Path.{_≡_}
@@ -52,12 +52,21 @@ refusesNine depth p s =
 unfoldable pub refusesTen : Pins → State → Bool
 refusesTen p s = writeRises p (s .write) && p .ld && not (p .wen) && not (isSeen (s .write .view))
 
--- the table from row 8 on, and from row 6 on
+-- a word is asked for while D moves: a write, full or not, or a parallel load, by LD; under serial loading 7 comes first
+unfoldable pub refusesTwelve : Pins → State → Bool
+refusesTwelve p s = writeRises p (s .write) && not (p .wen) && p .unsettled
+
+-- the table from row 10 on, from row 8 on, and from row 6 on
+abbrev pub fromTen : Pins → State → ℕ
+fromTen p s =
+    cond (refusesTen p s) 10
+    (cond (refusesTwelve p s) 12 0)
+
 abbrev pub fromEight : Part → Pins → State → ℕ
 fromEight part p s =
     cond (refusesEight p s) 8
     (cond (refusesNine (depthOf part) p s) 9
-    (cond (refusesTen p s) 10 0))
+    (fromTen p s))
 
 abbrev pub fromSix : Part → Pins → State → ℕ
 fromSix part p s =

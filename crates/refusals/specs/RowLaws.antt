@@ -22,8 +22,8 @@ use Rattle.chip.specs.declared.state.State.{State}
 use Rattle.chip.specs.Levels.{Low, ReadRise}
 use Rattle.chip.specs.Tells.{Tells, yes, no, at-most, both, four, high, low, one, read-rise, same, three, write-rise}
 use Rattle.refusals.specs.NineLaws.{nine-exact}
-use Rattle.refusals.specs.Refuse.{asksUnselected, refusalOf, refusesEight, refusesFive, refusesNine, refusesSeven, refusesSix, refusesTen, retransmitMost, severalLow}
-use Rattle.refusals.specs.Rows.{FirstRow, Given, Row5, Row6, Row7, Row8, Row9, Row10, Unselected, lows, mostWords}
+use Rattle.refusals.specs.Refuse.{asksUnselected, refusalOf, refusesEight, refusesFive, refusesNine, refusesSeven, refusesSix, refusesTen, refusesTwelve, retransmitMost, severalLow}
+use Rattle.refusals.specs.Rows.{FirstRow, Given, Row5, Row6, Row7, Row8, Row9, Row10, Row12, Unselected, lows, mostWords}
 
 several : (wen ren sen : Bool) → Tells (1 < lows wen + lows ren + lows sen) (severalLow wen ren sen)
 several true true true = no (omega arith)
@@ -78,6 +78,10 @@ module _ (p : Pins) (s : State) where
   unfolding refusesTen
   row-ten = four (write-rise p s) (high (p .ld)) (low (p .wen)) (unseen (s .write .view))
 
+  pub row-twelve : Tells (Row12 p s) (refusesTwelve p s)
+  unfolding refusesTwelve
+  row-twelve = three (write-rise p s) (low (p .wen)) (high (p .unsettled))
+
 -- one row, and the same of one that applies only outside reset
 given : {Row Further : Type 0} {test : Bool} {k : ℕ} (number otherwise : ℕ) → Tells Row test → k ≡ cond test number otherwise
     → (k ≡ otherwise → Further) → Given k number Row Further
@@ -107,11 +111,12 @@ module _ (accepted : ℕ) (part : Part) (p : Pins) (s : State) where
       given-outside 8 _ outside (row-eight p s) e λ e.
       given-outside 9 _ outside (row-nine p s accepted part t) e λ e.
       given-outside 10 _ outside (row-ten p s) e λ e.
+      given-outside 12 _ outside (row-twelve p s) e λ e.
       e ∙ either (λ (k : ℕ). k ≡ 0) (p .mrs && p .prs) 0 0 refl refl
 
   one-number : (a b : ℕ) → FirstRow accepted part p s a → FirstRow accepted part p s b → a ≡ b
   one-number a b x y =
-      once x y λ x y. once x y λ x y. once x y λ x y. once x y λ x y. once x y λ x y. once x y λ e f. e ∙ sym f
+      once x y λ x y. once x y λ x y. once x y λ x y. once x y λ x y. once x y λ x y. once x y λ x y. once x y λ e f. e ∙ sym f
 
   -- the number is given if and only if its row holds and none before it does; 0 if and only if none holds
   pub exactly-when : Tallies accepted (s .write) → (k : ℕ) → (k ≡ refusalOf part p s) ↔ FirstRow accepted part p s k

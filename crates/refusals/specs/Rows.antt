@@ -1,4 +1,4 @@
--- What is turned away: rows 5 to 10 as the table states them, and which of them gives the number.
+-- What is turned away: rows 5 to 10 as the table states them and 12 of paper 02, order 2, and which of them gives the number.
 use Prim.Native.Nat.{ℕ, _+_, _-_, _<_}
 use mathlib.Core.Bool.{Bool, true, false}
 use mathlib.Core.Logic.{_⊎_, _≢_}
@@ -47,11 +47,15 @@ Row9 accepted part p s = ReadRise p s × Low (p .rt) × ((accepted ≡ 0) ⊎ (m
 abbrev pub Row10 : Pins → State → Type 0
 Row10 p s = WriteRise p s × High (p .ld) × Low (p .wen) × (s .write .view ≢ Seen)
 
+-- LD HIGH asks for a write, LD LOW for a parallel load
+abbrev pub Row12 : Pins → State → Type 0
+Row12 p s = WriteRise p s × Low (p .wen) × High (p .unsettled)
+
 -- k is this row's number where the row holds, and is found further down where it does not
 abbrev pub Given : ℕ → ℕ → Type 0 → Type 0 → Type 0
 Given k number Row Further = (Row × (k ≡ number)) ⊎ ((¬ Row) × Further)
 
--- k is the number of the first row that holds, or 0 where none does; 6 to 10 apply only outside reset
+-- k is the number of the first row that holds, or 0 where none does; 6 to 12 apply only outside reset
 abbrev pub FirstRow : ℕ → Part → Pins → State → ℕ → Type 0
 FirstRow accepted part p s k =
     Given k 5 (Row5 p s)
@@ -60,4 +64,5 @@ FirstRow accepted part p s k =
     (Given k 8 (Outside p × Row8 p s)
     (Given k 9 (Outside p × Row9 accepted part p s)
     (Given k 10 (Outside p × Row10 p s)
-    (k ≡ 0))))))
+    (Given k 12 (Outside p × Row12 p s)
+    (k ≡ 0)))))))

@@ -1,5 +1,5 @@
-// What is turned away: 5 to 10.
-ghost use Rattle.refusals.specs.Refuse.{Refuses, fromEight, fromSix, retransmitMost, refusesEight, refusesFive, refusesNine, refusesSeven, refusesSix, refusesTen, severalLow, asksUnselected};
+// What is turned away: 5 to 10, and 12 for data that had not settled.
+ghost use Rattle.refusals.specs.Refuse.{Refuses, asksUnselected, fromEight, fromSix, fromTen, refusesEight, refusesFive, refusesNine, refusesSeven, refusesSix, refusesTen, refusesTwelve, retransmitMost, severalLow};
 ghost use Rattle.counts.specs.Part.{depthOf};
 ghost use mathlib.Core.Bool.{cond};
 ghost use mathlib.Core.Path.{_≡_};
@@ -40,7 +40,7 @@ fn refuse_rise(part: Part, p: Pins, s: State) -> u8
 fn refuse_from_eight(part: Part, p: Pins, s: State) -> u8
     ensures { λ r. ⌜ r ≡ fromEight part p s ⌝ }
 {
-    let from_ten = pick(refuses_ten(p, s), 10, 0);
+    let from_ten = refuse_from_ten(p, s);
     if sides::read::is_retransmit(p, s.read) {
         pick(
             refuses_eight(p, s),
@@ -50,6 +50,12 @@ fn refuse_from_eight(part: Part, p: Pins, s: State) -> u8
     } else {
         from_ten
     }
+}
+
+fn refuse_from_ten(p: Pins, s: State) -> u8
+    ensures { λ r. ⌜ r ≡ fromTen p s ⌝ }
+{
+    pick(refuses_ten(p, s), 10, pick(refuses_twelve(p, s), 12, 0))
 }
 
 fn pick(applies: bool, number: u8, otherwise: u8) -> u8
@@ -100,6 +106,13 @@ fn refuses_ten(p: Pins, s: State) -> bool
     let write = s.write;
     let view = write.view;
     sides::clocks::write_rises(p, s.write) & p.ld & !p.wen & !views::retransmit::is_seen(view)
+}
+
+// A write with LD HIGH, a parallel load with LD LOW.
+fn refuses_twelve(p: Pins, s: State) -> bool
+    ensures { λ r. ⌜ r ≡ refusesTwelve p s ⌝ }
+{
+    sides::clocks::write_rises(p, s.write) & !p.wen & p.unsettled
 }
 
 fn several_low(wen: bool, ren: bool, sen: bool) -> bool

@@ -32,7 +32,7 @@ use Rattle.pins.specs.TraceLaws.{isWhole, none-whole, whole-below, whole-word}
 use Rattle.runs.specs.Run.{Progress, atEnd, fitting, ranOf, runOf, turn, turned, worked}
 
 pub no-whole : (r : Record) → (tagOf the-type r ≡ 1) ⊎ (tagOf the-type r ≡ 2) → isWhole r ≡ false
-no-whole (Whole word) t = absurd (⊎-elim (λ z. omega arith) (λ z. omega arith) t)
+no-whole (Whole word unsettled) t = absurd (⊎-elim (λ z. omega arith) (λ z. omega arith) t)
 no-whole Leftover t = refl
 no-whole End t = refl
 
@@ -72,7 +72,7 @@ module _ {lenient : Bool} {part : Part} {bytes : List ℕ} {start g : Progress} 
       loop.ended-now lenient (turned part) (atEnd bytes) (λ at. wordAt bytes (at * 4)) (wholeRecords bytes) (widths part) length start (inv .turns) ranOf past
       (rw f at n ∙ ap (λ (at : ℕ). trace.numberOf (recordAt bytes at)) here)
 
-  module _ {word : ℕ} (e : r ≡ Whole word) {a : Sampled} {memory : List ℕ} (gives : Gives (stepped part word (g .state) (g .memory)) a memory)
+  module _ {word : ℕ} {unsettled : Bool} (e : r ≡ Whole word unsettled) {a : Sampled} {memory : List ℕ} (gives : Gives (stepped part word (g .state) (g .memory)) a memory)
       {number : ℕ} (n : number ≡ numberOf (a .outcome)) {stop : Bool} (t : stop ≡ stops lenient number) where
     below : index < wholeRecords bytes
     below = whole-below bytes index (sym f ∙ e)

@@ -99,7 +99,7 @@ fn go(
     let mut index: usize = 0;
     loop {
         let record = pins::trace::record_at(trace, index);
-        let Record::Whole(word) = record else {
+        let Record::Whole(word, _) = record else {
             return end_at(index, accepted, ending(record), s);
         };
         let sampled = fifo::sample::step(part, word, s, memory);
@@ -130,7 +130,7 @@ fn ending(record: Record) -> u8
     ensures { λ r. ⌜ r ≡ trace.numberOf «record» ⌝ }
 {
     match record {
-        Record::Whole(_) => 0,
+        Record::Whole(_, _) => 0,
         Record::Leftover => 4,
         Record::End => 0,
     }

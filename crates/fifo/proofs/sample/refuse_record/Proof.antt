@@ -5,11 +5,7 @@ use Rattle.fifo.proofs.sample.refuse_record.Tie as tie
 
 returns : tie.Need-returns
 unfolding recordRefusal
-returns c = simp (← c .before .is-bit-18-set .ensures, c .if1 .taken)
-
-returns-2 : tie.Need-returns-2
-unfolding recordRefusal
-returns-2 c = simp (c .refusal .ensures, c .before .decode .ensures, ← c .before .before .before .is-bit-18-set .ensures, c .before .before .if1 .left)
+returns c = simp (c .refusal .ensures, c .before .decode .ensures)
 
 pub refuse-record-spec : {M : Type 1} → statement M
-refuse-record-spec = tie.close (tie.spec (λ c κs. search needs) (λ c κs. search needs) (λ c κs. search needs) returns returns-2)
+refuse-record-spec = tie.close (tie.spec (λ c κs. search needs) (λ c κs. search needs) returns)

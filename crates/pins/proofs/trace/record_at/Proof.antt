@@ -14,7 +14,9 @@ reads-by e = record { number = ap numberOf e ∙ number-told _ _; result = e }
 
 returns : tie.Need-returns
 unfolding recordAt
-returns c = reads-by (simp (c .word-at .ensures, lt-ltb _ _ (c .before .if1 .taken)))
+returns c =
+    let read = c .before in
+    reads-by (simp (c .is-unsettled .ensures, read .word-at .ensures, lt-ltb _ _ (read .before .if1 .taken)))
 
 returns-2 : tie.Need-returns-2
 unfolding recordAt
@@ -25,4 +27,4 @@ unfolding recordAt
 returns-3 c = reads-by (simp (ne-eqb _ _ (c .if2 .left), le-ltb _ _ (c .before .if1 .left)))
 
 pub record-at-spec : {M : Type 1} → statement M
-record-at-spec = tie.close (tie.spec (λ c. search needs) (λ c κs. search needs) returns returns-2 returns-3)
+record-at-spec = tie.close (tie.spec (λ c. search needs) (λ c κs. search needs) (λ c κs. search needs) returns returns-2 returns-3)

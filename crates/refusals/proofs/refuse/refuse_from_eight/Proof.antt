@@ -5,19 +5,18 @@ use Rattle.refusals.proofs.refuse.refuse_from_eight.Statement.{statemen
 use Rattle.refusals.proofs.refuse.refuse_from_eight.Tie as tie
 
 returns : tie.Need-returns
-returns c = simp (c .pick3 .ensures, c .before .pick2 .ensures, c .before .before .refuses-nine .ensures, c .before .before .before .refuses-eight .ensures, c .before .before .before .before .before .before .pick .ensures, c .before .before .before .before .before .before .before .refuses-ten .ensures)
+returns c = simp (c .pick2 .ensures, c .before .pick .ensures, c .before .before .refuses-nine .ensures, c .before .before .before .refuses-eight .ensures, c .before .before .before .before .before .before .refuse-from-ten .ensures)
 
 returns-2 : tie.Need-returns-2
 unfolding refusesEight refusesNine
 returns-2 c =
     let none = sym (c .before .is-retransmit .ensures) ∙ c .if1 .left in
-    simp (none, c .before .before .pick .ensures, c .before .before .before .refuses-ten .ensures)
+    simp (none, c .before .before .refuse-from-ten .ensures)
 
 pub refuse-from-eight-spec : {M : Type 1} → statement M
 refuse-from-eight-spec =
     tie.close
     (tie.spec
-    (λ c κs. search needs)
     (λ c κs. search needs)
     (λ c κs. search needs)
     (λ c κs. search needs)
