@@ -37,7 +37,8 @@ uint32_t fifo_power_up(uint8_t *state, size_t state_len);
  *
  *   part                 255 or 265, compared in all its 32 bits; the same for the whole life of a state
  *   record, record_len   the sample: four bytes, the first of most weight. From bit 31 down: MRS, PRS, WCLK, RCLK, WEN,
- *                        REN, LD, SEN, RT, FWFT/SI, OE, write skew met, read skew met; bit 18 is 0; then D17 to D0.
+ *                        REN, LD, SEN, RT, FWFT/SI, OE, write skew met, read skew met; bit 18, 1 where D was still moving;
+ *                        then D17 to D0.
  *                        Pins are levels, 1 for HIGH. A clock rises where it is HIGH and was LOW at the last sample taken;
  *                        at power-up both count as HIGH.
  *   state, state_len     the state, as fifo_power_up or the last call left it
@@ -59,7 +60,7 @@ uint32_t fifo_power_up(uint8_t *state, size_t state_len);
  *          count, or the read side's second stage lies behind the read count.
  *        Never so for a state that fifo_power_up made and that fifo_sample alone has changed since, with one part number
  *        all the time
- *    4   record_len is not 4, or bit 18 is set
+ *    4   record_len is not 4
  *    5   MRS HIGH, and no Master Reset so far
  *    6   a clock rises with LD LOW and more than one of WEN, REN and SEN LOW
  *    7   WCLK rises with LD LOW and WEN LOW under serial loading, or SEN LOW under parallel loading
@@ -67,8 +68,9 @@ uint32_t fifo_power_up(uint8_t *state, size_t state_len);
  *    9   RCLK rises with RT LOW, and the words accepted since the last reset are none, or more than the depth less 2
  *        (less 1 in fall-through mode)
  *   10   WCLK rises with LD HIGH and WEN LOW before the write side has seen the last retransmit
+ *   12   WCLK rises with WEN LOW and bit 18 set: a write, full or not, or a parallel load of data that had not settled
  *
- * 6 to 10 only with MRS and PRS HIGH. After a refusal the next sample goes on from where the last one taken left off. */
+ * 6 to 12 only with MRS and PRS HIGH; 11 is given by the pair of parts alone, not here. After a refusal the next sample goes on from where the last one taken left off. */
 uint32_t fifo_sample(uint32_t part, const uint8_t *record, size_t record_len, uint8_t *state, size_t state_len,
                      uint8_t *memory, size_t memory_len, uint8_t *answer, size_t answer_len);
 
