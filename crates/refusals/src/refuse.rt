@@ -55,7 +55,9 @@ fn refuse_from_eight(part: Part, p: Pins, s: State) -> u8
 fn refuse_from_ten(p: Pins, s: State) -> u8
     ensures { λ r. ⌜ r ≡ fromTen p s ⌝ }
 {
-    pick(refuses_ten(p, s), 10, pick(refuses_twelve(p, s), 12, 0))
+    let ten = refuses_ten(p, s);
+    let twelve = refuses_twelve(p, s);
+    pick(ten, 10, pick(twelve, 12, 0))
 }
 
 fn pick(applies: bool, number: u8, otherwise: u8) -> u8
