@@ -112,9 +112,9 @@ impl Tried {
     fn enough(&self) -> bool {
         let Tally { spelled, unspelled, numbers, .. } = &self.hostile;
         let all_met = |numbers: &Numbers, wanted: &[u32]| wanted.iter().all(|number| numbers.contains_key(number));
-        let (wrong_calls, by_pins) = ([0, 1, 2, 3, 4], [5, 6, 7, 8, 9, 10]);
+        let (wrong_calls, by_pins) = ([0, 1, 2, 3, 4], [5, 6, 7, 8, 9, 10, 12]);
         let hostile = all_met(numbers, &wrong_calls) && all_met(numbers, &by_pins);
-        let handed = all_met(&self.handed, &[0, 3, 4]) && all_met(&self.handed, &by_pins);
+        let handed = all_met(&self.handed, &[0, 3]) && all_met(&self.handed, &by_pins);
         *spelled > 0 && *unspelled > 0 && hostile && handed
     }
 }
