@@ -105,8 +105,6 @@ uint32_t plain_step(const struct plain_part *part, uint32_t record, struct plain
                     uint32_t *answer)
 {
     uint32_t rises = record & ~state->levels & (WCLK | RCLK);
-    if (record & SPARE)
-        return 4;
     if (!state->master_reset && !low(record, MRS))
         return 5;
     if (low(record, MRS) || low(record, PRS)) {

@@ -1,4 +1,4 @@
-// A plain C model of paper 01, written for comparison: state in a struct, memory in words.
+// A plain C model of paper 01 and of order 2 of paper 02, written for comparison: state in a struct, memory in words.
 #ifndef PLAIN_H
 #define PLAIN_H
 
@@ -74,7 +74,7 @@ struct plain_state plain_power_up(void);
 // Refusals 1 to 3, or 0.
 uint32_t plain_setting(uint32_t number, const struct plain_state *state, size_t words, bool room_fits);
 
-// One record in a setting that was found good: 4 to 10 with nothing moved, or 0 with state, memory and answer moved on.
+// One record in a setting that was found good: 5 to 12 with nothing moved, or 0 with state, memory and answer moved on.
 uint32_t plain_step(const struct plain_part *part, uint32_t record, struct plain_state *state, uint32_t *memory,
                     uint32_t *answer);
 

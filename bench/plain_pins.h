@@ -17,7 +17,7 @@ static const uint32_t FWFT_SI = 1u << 22;
 static const uint32_t OE = 1u << 21;
 static const uint32_t WRITE_SKEW_MET = 1u << 20;
 static const uint32_t READ_SKEW_MET = 1u << 19;
-static const uint32_t SPARE = 1u << 18;
+static const uint32_t UNSETTLED = 1u << 18;
 static const uint32_t WORD = (1u << 18) - 1;
 
 static inline bool low(uint32_t record, uint32_t pin)

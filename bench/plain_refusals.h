@@ -1,4 +1,4 @@
-// "What is turned away", rows 3 and 5 to 10.
+// "What is turned away", rows 3, 5 to 10 and 12.
 #ifndef PLAIN_REFUSALS_H
 #define PLAIN_REFUSALS_H
 
@@ -44,6 +44,14 @@ static uint32_t retransmit_refusal(const struct plain_part *part, const struct p
     return 0;
 }
 
+// Of a write or a parallel load, either of which takes D.
+static uint32_t data_refusal(const struct plain_state *state, uint32_t record)
+{
+    if (!low(record, LD) && state->write.view != PLAIN_SEEN)
+        return 10;
+    return low(record, UNSETTLED) ? 0 : 12;
+}
+
 static uint32_t rise_refusal(const struct plain_part *part, const struct plain_state *state, uint32_t record,
                              uint32_t rises)
 {
@@ -52,8 +60,8 @@ static uint32_t rise_refusal(const struct plain_part *part, const struct plain_s
         refusal = loading_refusal(&state->offsets, record, rises);
     if (refusal == 0 && (rises & RCLK) && low(record, RT))
         refusal = retransmit_refusal(part, state, record);
-    if (refusal == 0 && (rises & WCLK) && !low(record, LD) && low(record, WEN) && state->write.view != PLAIN_SEEN)
-        refusal = 10;
+    if (refusal == 0 && (rises & WCLK) && low(record, WEN))
+        refusal = data_refusal(state, record);
     return refusal;
 }
 

@@ -2,6 +2,7 @@
 
 use crate::model::{Mode, Model};
 use crate::part::PARTS;
+use crate::pins::Pins;
 
 /// Where a corner can be come through: with each part in these modes, or at all.
 #[derive(Clone, Copy, PartialEq, Eq)]
@@ -97,10 +98,9 @@ corners! {
     WriteCountPassed Both "write count beyond 65,536",
     ReadCountPassed Both "read count beyond 65,536",
     RefusedPassed Both "9 though the count round 16 bits would do",
-    RefusedSpare Both "4: bit 18",
-    RefusedSpareReset Both "4 in a reset sample",
     RefusedBeforeReset Anywhere "5",
     RefusedBeforePartial Anywhere "5 with PRS LOW",
+    RefusedBeforeUnsettled Anywhere "5 with D unsettled",
     RefusedWriteRise Both "6 at a WCLK rise only",
     RefusedReadRise Both "6 at an RCLK rise only",
     RefusedThree Both "6 with all three LOW",
@@ -113,14 +113,29 @@ corners! {
     RefusedOneMore Both "9 with one word too many",
     RefusedUnseenFirst Both "10 before the write side has a count from after",
     RefusedUnseenSecond Both "10 with that count in the first stage",
-    ReasonsSpare Both "4 before another number",
+    RefusedUnsettledWrite Both "12 for a write",
+    RefusedUnsettledFull Both "12 for a write while full",
+    RefusedUnsettledRead Both "12 in a sample that would also read a word",
+    RefusedUnsettledFirst Both "12 for a parallel load of n",
+    RefusedUnsettledSecond Both "12 for a parallel load of m",
     ReasonsLoad Both "6 before 7",
     ReasonsLoadRetransmit Both "6 before 8",
     ReasonsMethodRetransmit Both "7 before 8",
     ReasonsMethodWords Both "7 before 9",
     ReasonsRetransmitWords Both "8 before 9",
     ReasonsRetransmitUnseen Both "8 before 10",
+    ReasonsLoadUnsettled Both "6 before 12",
+    ReasonsMethodUnsettled Both "7 before 12",
+    ReasonsRetransmitUnsettled Both "8 before 12",
+    ReasonsUnseenUnsettled Both "10 before 12",
     RefusedThenTaken Both "a rise refused, and taken in the next sample",
+    RefusedThenSettled Both "12, and the same taken settled in the next sample",
+    UnsettledMasterReset Both "unsettled in a Master Reset, WCLK going HIGH, WEN LOW",
+    UnsettledPartialReset Both "unsettled in a Partial Reset, WCLK going HIGH, WEN LOW",
+    UnsettledSerial Both "unsettled with a serial bit",
+    UnsettledUnasked Both "unsettled as WCLK rises with WEN and LD HIGH",
+    UnsettledRead Both "unsettled with WEN LOW as RCLK alone delivers a word",
+    UnsettledStill Both "unsettled with WEN LOW and no rise",
     OtherPartTaken Anywhere "a state taken as the other part's",
     OtherOffset Anywhere "3 as the other part's: only an offset",
     OtherShown Anywhere "3 as the other part's: the offset shown",
@@ -138,15 +153,12 @@ corners! {
     StrictStopEight Anywhere "strict run ended by 8",
     StrictStopNine Anywhere "strict run ended by 9",
     StrictStopTen Anywhere "strict run ended by 10",
+    StrictStopTwelve Anywhere "strict run ended by 12",
     StrictWhole Anywhere "strict run to the end",
     LenientRun Anywhere "lenient run",
     UnknownPart Anywhere "unknown part",
     NoPart Anywhere "input under two bytes",
     NoRecords Anywhere "no records",
-    PairSpareLeft Both "pair: 4 by the left record alone",
-    PairSpareRight Both "pair: 4 by the right record alone",
-    PairSpareBoth Both "pair: 4 by both records",
-    PairSpareFirst Both "pair: 4 before 11",
     PairApartMasterReset Both "pair: 11 for MRS alone",
     PairApartPartialReset Both "pair: 11 for PRS alone",
     PairApartWriteClock Both "pair: 11 for WCLK alone",
@@ -161,6 +173,7 @@ corners! {
     PairApartInReset Both "pair: 11 in a reset",
     PairApartUnstarted Anywhere "pair: 11 before 5",
     PairApartFirst Both "pair: 11 before a part's own number",
+    PairApartUnsettled Both "pair: 11 before 12",
     PairFive Anywhere "pair: 5",
     PairSix Both "pair: 6",
     PairSeven Both "pair: 7",
@@ -169,6 +182,11 @@ corners! {
     PairTenLeft Both "pair: 10 by the left part alone",
     PairTenRight Both "pair: 10 by the right part alone",
     PairTenBoth Both "pair: 10 by both parts",
+    PairTwelveLeft Both "pair: 12 by the left part alone",
+    PairTwelveRight Both "pair: 12 by the right part alone",
+    PairTwelveBoth Both "pair: 12 by both parts",
+    PairTwelveFirst Both "pair: 12 by the left part before the right part's 10",
+    PairTenFirst Both "pair: 10 by the left part before the right part's 12",
     PairFullLeft Both "pair: FF/IR HIGH on the left alone",
     PairFullRight Both "pair: FF/IR HIGH on the right alone",
     PairEmptyLeft Both "pair: EF/OR HIGH on the left alone",
@@ -182,6 +200,7 @@ corners! {
     PairDataApart Both "pair: two words accepted in one sample",
     PairWriteMarkApart Both "pair: write skew met on one side alone",
     PairReadMarkApart Both "pair: read skew met on one side alone",
+    PairUnsettledApart Both "pair: a WCLK rise taken, unsettled on one side alone",
     PairWriteWithheld Both "pair: write withheld, though one half shows room",
     PairReadWithheld Both "pair: read withheld, though one half has a word ready",
     PairLeftOverOne Anywhere "pair: 1 byte left over",
@@ -199,6 +218,7 @@ corners! {
     PairStopNine Anywhere "pair: strict run ended by 9",
     PairStopTen Anywhere "pair: strict run ended by 10",
     PairStopEleven Anywhere "pair: strict run ended by 11",
+    PairStopTwelve Anywhere "pair: strict run ended by 12",
     PairStrictWhole Anywhere "pair: strict run to the end",
     PairLenientRun Anywhere "pair: lenient run",
     PairUnknownPart Anywhere "pair: unknown part",
@@ -215,6 +235,8 @@ pub struct Corners {
     pub pair_samples: u64,
     /// The last sample was a refused one in which a clock would have risen.
     pub refused_rise: bool,
+    /// The last sample, if it was refused 12.
+    pub refused_unsettled: Option<Pins>,
     /// The last WCLK rise was the one at which a retransmit was seen.
     pub just_seen: bool,
 }
@@ -238,7 +260,7 @@ impl Scope {
 impl Default for Corners {
     fn default() -> Corners {
         let counts = vec![[0; COLUMNS]; LIST.len()];
-        Corners { counts, samples: 0, pair_samples: 0, refused_rise: false, just_seen: false }
+        Corners { counts, samples: 0, pair_samples: 0, refused_rise: false, refused_unsettled: None, just_seen: false }
     }
 }
 

@@ -3,7 +3,7 @@
 use crate::model::{Mode, Model};
 use crate::pins::Pins;
 use crate::random::Random;
-use crate::refusals::refusal;
+use crate::refusals::{data_asked, refusal};
 use crate::scenes::{calm, clocks, Pace, Scene, PACES, WRITING};
 use crate::steering::{places_held, places_written, spoil};
 
@@ -25,12 +25,14 @@ pub struct Generator {
     pace: Pace,
     missed: u64,
     left: u64,
+    /// A sample meant for 12, which comes again with D settled.
+    again: Option<Pins>,
 }
 
 impl Generator {
     pub fn new(plan: Plan, random: Random) -> Generator {
         let (scene, left) = (plan.first, if plan.far { 600 } else { 20 });
-        Generator { random, plan, scene, pace: Pace::Together, missed: 4, left }
+        Generator { random, plan, scene, pace: Pace::Together, missed: 4, left, again: None }
     }
 
     pub fn next(&mut self, model: &Model) -> u32 {
@@ -61,22 +63,37 @@ impl Generator {
     fn master_reset(&mut self, model: &Model) -> Pins {
         let fwft_si = self.plan.mode == Mode::FallThrough;
         let (ld, wclk, rclk) = (self.random.flip(), self.random.flip(), self.random.flip());
-        Pins { mrs: false, prs: self.random.flip(), fwft_si, ld, wclk, rclk, ..calm(model) }
+        let unsettled = self.random.flip();
+        Pins { mrs: false, prs: self.random.flip(), fwft_si, ld, wclk, rclk, unsettled, ..calm(model) }
     }
 
     fn proposal(&mut self, model: &Model) -> Pins {
+        if let Some(pins) = self.again.take() {
+            return Pins { unsettled: false, ..pins };
+        }
         let arrived = self.scene.arrived(model);
         if arrived {
             self.turn_over(model);
         }
         let mut pins = self.idle(model, arrived);
         self.scene.play(&mut pins, model, &mut self.random);
+        pins.unsettled = self.random.one_in(3) && self.loses_no_word(model, pins);
         if arrived && self.plan.spoiled > 0 && self.random.one_in(self.plan.spoiled) {
-            let often = if model.retransmit_seen() { 9 } else { 10 };
-            let number = self.random.pick(&[4, 6, 7, 8, 9, 10, often]);
-            spoil(number, &mut pins, model, &mut self.random);
+            self.spoil(&mut pins, model);
         }
         pins
+    }
+
+    /// Whether D may be unsettled and no word is lost by it: none is asked for, or the part is full and refusals are wanted.
+    fn loses_no_word(&self, model: &Model, pins: Pins) -> bool {
+        !data_asked(model, pins) || self.plan.spoiled > 0 && model.full()
+    }
+
+    fn spoil(&mut self, pins: &mut Pins, model: &Model) {
+        let often = if model.retransmit_seen() { 9 } else { 10 };
+        let number = self.random.pick(&[6, 7, 8, 9, 10, 12, often]);
+        spoil(number, pins, model, &mut self.random);
+        self.again = (number == 12 && self.random.flip()).then_some(*pins);
     }
 
     /// A sample in which the clocks move and nothing is asked for. On the way to a place the clocks take the short way.

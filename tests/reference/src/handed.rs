@@ -11,7 +11,7 @@ pub use fields::{Fields, STATE_BYTES};
 pub use rules::Handed;
 
 use crate::corners::{Corner, Corners};
-use crate::library::{Aftermath, Call, Library, Reply};
+use crate::library::{Aftermath, Call, Library, Numbers, Reply};
 use crate::model::Outcome;
 use crate::part::{Part, PARTS};
 use crate::random::Random;
@@ -27,8 +27,7 @@ pub struct Trial<'a> {
     random: Random,
     memories: [Vec<u32>; 2],
     pub corners: Corners,
-    /// Calls by the number that came.
-    pub numbers: [u64; 11],
+    pub numbers: Numbers,
 }
 
 impl<'a> Trial<'a> {
@@ -41,7 +40,7 @@ impl<'a> Trial<'a> {
             library.refill(seed)?;
             refill(memory, seed);
         }
-        Ok(Trial { library, random, memories, corners: Corners::default(), numbers: [0; 11] })
+        Ok(Trial { library, random, memories, corners: Corners::default(), numbers: Numbers::new() })
     }
 
     /// The first difference in so many states, in words.
@@ -70,7 +69,7 @@ impl<'a> Trial<'a> {
             told.push(self.expected(&mut handed, record));
         }
         let replies = self.library.handed_in(&first.bytes(), &calls)?;
-        replies.iter().for_each(|(reply, _)| self.numbers[reply.number.min(10) as usize] += 1);
+        replies.iter().for_each(|(reply, _)| *self.numbers.entry(reply.number).or_default() += 1);
         let place = (0..told.len()).find(|&place| told[place] != replies[place]);
         Ok(place.map(|place| {
             let (call, told, reply) = (&calls[..=place], &told[place], &replies[place]);

@@ -11,7 +11,7 @@ use std::io::Result;
 use crate::corners::Corners;
 use crate::generator::{Generator, Plan};
 use crate::handed::STATE_BYTES;
-use crate::library::{Call, Library, Reply};
+use crate::library::{Call, Library, Numbers, Reply};
 use crate::model::{Mode, Model};
 use crate::part::{Part, PARTS};
 use crate::random::Random;
@@ -22,7 +22,7 @@ use crate::trace::refill;
 #[derive(Default)]
 pub struct Tally {
     pub calls: u64,
-    pub numbers: [u64; 11],
+    pub numbers: Numbers,
     /// Damaged states that pass 3, and those that do not.
     pub spelled: u64,
     pub unspelled: u64,
@@ -111,8 +111,6 @@ impl<'a> Hostile<'a> {
 
     fn count(&mut self, reply: &Reply) {
         self.tally.calls += 1;
-        if let Some(count) = self.tally.numbers.get_mut(reply.number as usize) {
-            *count += 1;
-        }
+        *self.tally.numbers.entry(reply.number).or_default() += 1;
     }
 }

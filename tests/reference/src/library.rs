@@ -4,6 +4,7 @@ mod comparison;
 
 pub use comparison::Difference;
 
+use std::collections::BTreeMap;
 use std::io::{BufReader, BufWriter, Read, Result, Write};
 use std::process::{Child, ChildStdin, ChildStdout};
 
@@ -26,6 +27,9 @@ pub struct Reply {
     pub answer: u32,
     pub moved: u8,
 }
+
+/// Calls by the number that came of them.
+pub type Numbers = BTreeMap<u32, u64>;
 
 /// A call with its lengths as they are claimed.
 #[derive(Clone, Copy, Debug)]

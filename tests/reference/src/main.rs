@@ -13,7 +13,7 @@ use reference::compare::{self, Counterexample};
 use reference::corners::Corners;
 use reference::handed::Trial;
 use reference::hostile::{Hostile, Tally};
-use reference::library::Library;
+use reference::library::{Library, Numbers};
 use reference::plans::Amount;
 use reference::program::Launch;
 use reference::random::Random;
@@ -67,7 +67,7 @@ fn try_hostile(library: &mut Library, calls: u64, seed: u64, corners: &mut Corne
 }
 
 /// Calls on states that were never reached, by the number that came of them.
-fn try_handed(settings: &Settings, seed: u64) -> (Finding, [u64; 11]) {
+fn try_handed(settings: &Settings, seed: u64) -> (Finding, Numbers) {
     let mut library = Library::new(settings.driver.clone());
     let mut trial = Trial::new(&mut library, seed).expect("the driver answers");
     let ended = |_| Some("the library's process ended".to_string());
@@ -103,16 +103,19 @@ fn try_pair(settings: &Settings, seed: u64) -> Finding {
 /// What was tried beside whole traces.
 struct Tried {
     hostile: Tally,
-    handed: [u64; 11],
+    handed: Numbers,
     runs: u64,
 }
 
 impl Tried {
-    /// Damage that never spells a state, or always does, tries nothing; and each number is to be met.
+    /// Damage that never spells a state, or always does, tries nothing; and each number that can come is to be met.
     fn enough(&self) -> bool {
         let Tally { spelled, unspelled, numbers, .. } = &self.hostile;
-        let handed = [&self.handed[..1], &self.handed[3..]].concat();
-        *spelled > 0 && *unspelled > 0 && numbers.iter().chain(&handed).all(|&calls| calls > 0)
+        let all_met = |numbers: &Numbers, wanted: &[u32]| wanted.iter().all(|number| numbers.contains_key(number));
+        let (wrong_calls, by_pins) = ([0, 1, 2, 3, 4], [5, 6, 7, 8, 9, 10, 12]);
+        let hostile = all_met(numbers, &wrong_calls) && all_met(numbers, &by_pins);
+        let handed = all_met(&self.handed, &[0, 3]) && all_met(&self.handed, &by_pins);
+        *spelled > 0 && *unspelled > 0 && hostile && handed
     }
 }
 

@@ -41,11 +41,10 @@ impl Pair {
     /// Every number whose condition holds, in the order in which they are judged: on the pair as a whole, then on the left
     /// part, then on the right one.
     pub fn conditions(&self, pins: [Pins; 2]) -> impl Iterator<Item = u32> + '_ {
-        let [left, right] = pins;
-        let whole = [(4, left.spare || right.spare), (11, left.shared() != right.shared())];
-        let whole = whole.into_iter().filter(|&(_, holds)| holds).map(|(number, _)| number);
+        let [left, right] = pins.map(Pins::shared);
+        let apart = (left != right).then_some(11);
         let own = self.halves.iter().zip(pins).flat_map(|(half, pins)| refusals::conditions(half, pins));
-        whole.chain(own.filter(|&number| number > 4))
+        apart.into_iter().chain(own)
     }
 
     pub fn refusal(&self, pins: [Pins; 2]) -> Option<u32> {

@@ -1,9 +1,8 @@
-//! "Trace sample".
+//! "Trace sample", with the mark of paper 02, order 2.
 
-const SPARE: u32 = 1 << 18;
-pub const WORD: u32 = SPARE - 1;
+pub const WORD: u32 = (1 << 18) - 1;
 
-/// The lowest bit of a pin that the two records of a pair have alike: above the skew marks, bit 18 and D.
+/// The lowest bit of a pin that the two records of a pair have alike: above the skew marks, the mark on D and D.
 pub const SHARED_FROM: u32 = 21;
 
 /// Levels of the pins in one sample, true for HIGH.
@@ -22,7 +21,8 @@ pub struct Pins {
     pub oe: bool,
     pub write_skew_met: bool,
     pub read_skew_met: bool,
-    pub spare: bool,
+    /// D was still moving.
+    pub unsettled: bool,
     pub data: u32,
 }
 
@@ -43,7 +43,7 @@ impl Pins {
             oe: high(21),
             write_skew_met: high(20),
             read_skew_met: high(19),
-            spare: high(18),
+            unsettled: high(18),
             data: record & WORD,
         }
     }
@@ -63,7 +63,7 @@ impl Pins {
             self.oe,
             self.write_skew_met,
             self.read_skew_met,
-            self.spare,
+            self.unsettled,
         ];
         joined(&levels) << 18 | self.data
     }
@@ -75,7 +75,7 @@ impl Pins {
 
     /// Without what may differ between the two records of a pair.
     pub fn shared(self) -> Pins {
-        Pins { write_skew_met: true, read_skew_met: true, spare: false, data: 0, ..self }
+        Pins { write_skew_met: true, read_skew_met: true, unsettled: false, data: 0, ..self }
     }
 
     pub fn in_reset(self) -> bool {

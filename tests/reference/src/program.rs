@@ -138,6 +138,7 @@ impl Traced for Single {
             (8, Corner::StrictStopEight),
             (9, Corner::StrictStopNine),
             (10, Corner::StrictStopTen),
+            (12, Corner::StrictStopTwelve),
         ],
         left_over: &[Corner::LeftOver; 3],
     };

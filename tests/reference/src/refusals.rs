@@ -1,4 +1,4 @@
-//! "What is turned away", from 4 on: what comes before is no matter of a sample.
+//! "What is turned away", from 5 on: what comes before is no matter of what a record says.
 
 use crate::model::{Mode, Model};
 use crate::offsets::Method;
@@ -44,19 +44,25 @@ pub fn conditions(judged: &impl Judged, pins: Pins) -> impl Iterator<Item = u32>
     let (write_rise, read_rise) = (running && wclk, running && rclk);
     let retransmit = read_rise && !pins.rt;
     let held = [
-        (4, pins.spare),
         (5, !judged.started() && pins.mrs),
         (6, (write_rise || read_rise) && !pins.ld && pins.enables_low() > 1),
         (7, write_rise && !pins.ld && wrong_method(judged.method(), pins)),
         (8, retransmit && !(pins.ren && pins.wen)),
         (9, retransmit && !judged.may_retransmit()),
         (10, write_rise && pins.ld && !pins.wen && !judged.retransmit_seen()),
+        (12, pins.unsettled && data_asked(judged, pins)),
     ];
     held.into_iter().filter(|&(_, holds)| holds).map(|(number, _)| number)
 }
 
 pub fn refusal(judged: &impl Judged, pins: Pins) -> Option<u32> {
     conditions(judged, pins).next()
+}
+
+/// Whether a write or a parallel load is asked, either of which takes D.
+pub fn data_asked(judged: &impl Judged, pins: Pins) -> bool {
+    let (wclk, _) = judged.rises(pins);
+    !pins.in_reset() && wclk && !pins.wen
 }
 
 fn wrong_method(method: Method, pins: Pins) -> bool {

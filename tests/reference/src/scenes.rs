@@ -75,7 +75,7 @@ pub fn calm(model: &Model) -> Pins {
         oe: false,
         write_skew_met: true,
         read_skew_met: true,
-        spare: false,
+        unsettled: false,
         data: 0,
     }
 }
@@ -184,5 +184,5 @@ fn resets(pins: &mut Pins, model: &Model, random: &mut Random) {
 fn noise(pins: &mut Pins, random: &mut Random) {
     let thrown = Pins::of(random.bits());
     let (mrs, prs) = (!random.one_in(96), !random.one_in(96));
-    *pins = Pins { mrs, prs, spare: false, rt: !random.one_in(4), ..thrown };
+    *pins = Pins { mrs, prs, rt: !random.one_in(4), ..thrown };
 }

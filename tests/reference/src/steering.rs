@@ -9,12 +9,11 @@ use crate::refusals::most_for_retransmit;
 /// Moves the pins so that the sample is refused by that number, if the clocks and the past allow it.
 pub fn spoil(number: u32, pins: &mut Pins, model: &Model, random: &mut Random) {
     let both = random.flip();
-    pins.wclk |= both || matches!(number, 7 | 10);
+    pins.wclk |= both || matches!(number, 7 | 10 | 12);
     pins.rclk |= both || matches!(number, 8 | 9);
-    pins.mrs = number != 4 || !random.one_in(8);
-    pins.prs = number != 4 || !random.one_in(8);
+    (pins.mrs, pins.prs) = (true, true);
+    pins.unsettled = number == 12 || random.one_in(3);
     match number {
-        4 => pins.spare = true,
         5 => (),
         6 => {
             let kept = random.below(4);
@@ -32,7 +31,12 @@ pub fn spoil(number: u32, pins: &mut Pins, model: &Model, random: &mut Random) {
             (pins.rt, pins.wen, pins.ren) = (false, kept == 0, kept == 1);
         }
         9 => (pins.rt, pins.wen, pins.ren) = (false, true, true),
-        _ => (pins.ld, pins.wen) = (true, false),
+        10 => (pins.ld, pins.wen) = (true, false),
+        _ => {
+            let load = model.offsets.method == Method::Parallel && random.one_in(3);
+            (pins.ld, pins.wen, pins.rt) = (!load, false, true);
+            (pins.ren, pins.sen) = (pins.ren || load, true);
+        }
     }
 }
 

@@ -4,6 +4,7 @@ mod offsets;
 mod refused;
 mod resets;
 mod retransmits;
+mod unsettled;
 
 use crate::corners::{Corner, Corners};
 use crate::history::{looks_past, taken_across, History};
@@ -32,10 +33,12 @@ impl Corners {
         if let Outcome::Refused(number) = outcome {
             self.refused(&before, pins, number);
             self.refused_rise = rises;
+            self.refused_unsettled = (number == 12).then_some(pins);
             return outcome;
         }
         self.note(model, Corner::RefusedThenTaken, self.refused_rise && rises && !pins.in_reset());
         self.refused_rise = false;
+        self.unsettled(&before, pins, model);
         if pins.in_reset() {
             self.reset(&before, pins, model);
         } else {

@@ -1,4 +1,4 @@
-//! "Bench figures" of the scope paper, on the reference itself.
+//! "Bench figures" of the scope paper, and figures on unsettled data, on the reference itself.
 
 use reference::model::{Model, Outcome};
 use reference::part::PARTS;
@@ -30,6 +30,10 @@ impl Bench {
             Outcome::Taken(answer) => self.answer = answer,
             Outcome::Refused(number) => panic!("refused {number}"),
         }
+    }
+
+    fn refused(&mut self, number: u32, change: impl Fn(Pins) -> Pins) {
+        assert_eq!(self.sample(change), Outcome::Refused(number));
     }
 
     fn write(&mut self, words: u32) {
@@ -129,4 +133,103 @@ fn retransmit_limits() {
             assert_eq!(bench.retransmit(), refused, "after {words} words");
         }
     }
+}
+
+/// A write asked, with D unsettled.
+fn unsettled(pins: Pins) -> Pins {
+    Pins { wclk: true, wen: false, unsettled: true, data: 0x55, ..pins }
+}
+
+#[test]
+fn unsettled_write() {
+    for fwft_si in [false, true] {
+        let mut bench = Bench::reset(fwft_si);
+        bench.refused(12, unsettled);
+        bench.refused(12, unsettled);
+        assert_eq!((bench.model.written(), bench.memory[0]), (0, 0));
+        bench.taken(|pins| Pins { unsettled: false, ..unsettled(pins) });
+        assert_eq!((bench.model.written(), bench.memory[0]), (1, 0x55));
+    }
+}
+
+#[test]
+fn unsettled_write_while_full() {
+    let mut bench = after(8_192);
+    bench.refused(12, unsettled);
+    bench.taken(|pins| Pins { unsettled: false, ..unsettled(pins) });
+    assert_eq!((bench.answer, bench.memory[0]), (0x040000, 0));
+}
+
+#[test]
+fn unsettled_write_with_a_read() {
+    let mut bench = after(3);
+    bench.idle_reads(2);
+    let read = |pins: Pins| Pins { rclk: true, ren: false, ..pins };
+    bench.refused(12, |pins| read(unsettled(pins)));
+    bench.taken(|pins| read(Pins { wen: false, unsettled: true, ..pins }));
+    assert_eq!((bench.model.read_count(), bench.model.written()), (1, 3));
+}
+
+#[test]
+fn unsettled_parallel_load() {
+    let mut bench = Bench::reset(false);
+    let load = |pins: Pins| Pins { ld: false, ..unsettled(pins) };
+    bench.refused(12, load);
+    bench.taken(|pins| Pins { unsettled: false, data: 3, ..load(pins) });
+    bench.taken(|pins| Pins { wclk: false, ..pins });
+    bench.refused(12, load);
+    assert_eq!((bench.model.offsets.n, bench.model.offsets.m), (3, 127));
+}
+
+#[test]
+fn unsettled_serial_bit() {
+    let mut bench = Bench::reset(false);
+    bench.taken(|pins| Pins { mrs: false, ..pins });
+    let bit = |pins: Pins| Pins { ld: false, wen: true, sen: false, ..unsettled(pins) };
+    bench.refused(7, |pins| Pins { wen: false, sen: true, ..bit(pins) });
+    for _ in 0..26 {
+        bench.taken(|pins| Pins { fwft_si: true, ..bit(pins) });
+        bench.taken(|pins| Pins { wclk: false, ..bit(pins) });
+    }
+    assert_eq!((bench.model.offsets.n, bench.model.offsets.m), (8_191, 8_191));
+}
+
+#[test]
+fn unsettled_in_resets() {
+    for (mrs, prs) in [(false, true), (true, false)] {
+        let mut bench = after(3);
+        bench.taken(|pins| Pins { mrs, prs, ..unsettled(pins) });
+        assert_eq!((bench.answer, bench.model.written()), (0xAC0000, 0));
+    }
+    let mut power_up = Model::power_up(PARTS[0]);
+    let record = unsettled(calm(&power_up)).record();
+    assert_eq!(power_up.sample(record, &mut [0; 8_192]), Outcome::Refused(5));
+}
+
+#[test]
+fn unsettled_with_nothing_asked() {
+    let mut bench = after(1);
+    let idle: [fn(Pins) -> Pins; 3] = [
+        |pins| Pins { wclk: false, ..pins },
+        |pins| Pins { wclk: false, rclk: true, ..pins },
+        |pins| Pins { wen: true, ..pins },
+    ];
+    for change in idle {
+        bench.taken(|pins| change(unsettled(pins)));
+    }
+    assert_eq!(bench.model.written(), 1);
+}
+
+#[test]
+fn unsettled_comes_last() {
+    let mut bench = after(1);
+    bench.refused(6, |pins| Pins { ld: false, ren: false, ..unsettled(pins) });
+    bench.refused(8, |pins| Pins { rclk: true, rt: false, ..unsettled(pins) });
+    assert_eq!(bench.retransmit(), None);
+    for _ in 0..2 {
+        bench.refused(10, unsettled);
+        bench.taken(|pins| Pins { wclk: true, ..pins });
+        bench.taken(|pins| Pins { wclk: false, ..pins });
+    }
+    bench.refused(12, unsettled);
 }

@@ -21,7 +21,7 @@ const RETRANSMIT: u32 = 0xDF180000;
 /// Both marks met, unless turned over.
 const READ_SKEW: u32 = 1 << 19;
 const WRITE_SKEW: u32 = 1 << 20;
-const SPARE: u32 = 1 << 18;
+const UNSETTLED: u32 = 1 << 18;
 
 fn input(samples: &[[u32; 2]]) -> Vec<u8> {
     let records = samples.iter().flatten().flat_map(|record| record.to_be_bytes());
@@ -98,27 +98,46 @@ fn pins_apart() {
 fn numbers_in_order() {
     let refused = |sample| lenient(&[sample, [STANDARD; 2]]);
     let then_reset = |number| format!("0 refused {number}\n1 10 AC0000 AC0000\nend 1 0\n");
-    for sample in [[STILL | SPARE, STILL], [STILL, STILL | SPARE], [STILL | SPARE, READ]] {
-        assert_eq!(refused(sample), then_reset(4));
+    for sample in [[STILL, READ], [STILL | UNSETTLED, READ], [STILL, READ | UNSETTLED]] {
+        assert_eq!(refused(sample), then_reset(11));
     }
-    assert_eq!(refused([STILL, READ]), then_reset(11));
-    assert_eq!(refused([STILL, STILL ^ READ_SKEW ^ WRITE_SKEW ^ 1]), then_reset(5));
+    for sample in [[STILL | UNSETTLED, STILL], [STILL, STILL ^ UNSETTLED ^ READ_SKEW ^ WRITE_SKEW ^ 1]] {
+        assert_eq!(refused(sample), then_reset(5));
+    }
 }
 
-/// A write after a retransmit that one half has not seen, for its mark at one rise before.
+#[test]
+fn unsettled_in_either_half() {
+    let after_reset = |sample| lenient(&[[STANDARD; 2], sample]);
+    let refused = |number| format!("0 10 AC0000 AC0000\n1 refused {number}\nend 1 0\n");
+    for sample in [[WRITE | UNSETTLED, WRITE], [WRITE, WRITE | UNSETTLED], [WRITE | UNSETTLED; 2]] {
+        assert_eq!(after_reset(sample), refused(12));
+    }
+    assert_eq!(after_reset([WRITE | UNSETTLED, READ]), refused(11));
+    for pins in [STILL, STANDARD, READ, WRITE_CLOCK] {
+        for sample in [[pins | UNSETTLED, pins], [pins, pins | UNSETTLED]] {
+            assert_eq!(after_reset(sample), "0 10 AC0000 AC0000\n1 10 AC0000 AC0000\nend 2 0\n");
+        }
+    }
+}
+
+/// A write after a retransmit that one half has not seen, for its mark at one rise before: both words settled, the left
+/// one unsettled, the right one unsettled.
 #[test]
 fn one_half_refuses() {
-    let missed = [[WRITE_CLOCK ^ WRITE_SKEW, WRITE_CLOCK], [WRITE_CLOCK, WRITE_CLOCK ^ WRITE_SKEW]];
-    for apart in missed {
+    let by_left = ([WRITE_CLOCK ^ WRITE_SKEW, WRITE_CLOCK], ["refused 10", "refused 10", "refused 10"]);
+    let by_right = ([WRITE_CLOCK, WRITE_CLOCK ^ WRITE_SKEW], ["refused 10", "refused 12", "refused 10"]);
+    for (apart, numbers) in [by_left, by_right] {
         let before = [[STANDARD; 2], [WRITE; 2], [STILL; 2], [RETRANSMIT; 2], [STILL; 2], apart, [STILL; 2]];
         let before = [&before[..], &[[WRITE_CLOCK; 2], [STILL; 2]]].concat();
         let after = [[WRITE_CLOCK; 2], [STILL; 2], [WRITE; 2], [READ_CLOCK; 2]];
-        let refused = lenient(&[&before[..], &[[WRITE; 2]], &after].concat());
+        let writes = [[WRITE; 2], [WRITE | UNSETTLED, WRITE], [WRITE, WRITE | UNSETTLED]];
+        let refused = lenient(&[&before[..], &writes, &after].concat());
         let without = lenient(&[&before[..], &after].concat());
         let answers =
             |lines: &str| lines.lines().map(|line| line.split_once(' ').expect("an index").1.to_string()).collect();
         let (mut refused, without): (Vec<String>, Vec<String>) = (answers(&refused), answers(&without));
-        assert_eq!(refused.remove(before.len()), "refused 10");
+        assert_eq!(Vec::from_iter(refused.drain(before.len()..before.len() + writes.len())), numbers);
         assert_eq!(refused, without);
     }
 }

@@ -8,7 +8,7 @@ use reference::corners::Corners;
 use reference::plans::Amount;
 use reference::program::Launch;
 
-const AMOUNT: Amount = Amount { wide: 1, long: 2, full: 0, short: 50 };
+const AMOUNT: Amount = Amount { wide: 1, long: 2, full: 2, short: 50 };
 
 fn asked() -> Option<(u64, Launch)> {
     let arguments: Vec<String> = env::args().skip(1).collect();

@@ -126,7 +126,7 @@ pub fn failing(part: Part, clause: u64, random: &mut Random) -> Handed {
 /// A record that mostly asks for one thing, with the clocks mostly rising.
 pub fn record(fields: &Fields, random: &mut Random) -> u32 {
     let mut pins = Pins::of(random.bits());
-    pins.spare = random.one_in(64);
+    pins.unsettled = random.one_in(4);
     (pins.mrs, pins.prs) = (!random.one_in(32), !random.one_in(32));
     (pins.wclk, pins.rclk) = (!random.one_in(4), !random.one_in(4));
     let wish = random.below(8);

@@ -32,7 +32,7 @@ impl Hostile<'_> {
         let mut records: Vec<u32> = (0..3).map(|_| generator.next(model)).collect();
         let mut known = Model::power_up(model.part);
         let mut memory = vec![0; model.part.depth as usize];
-        let mut record = Pins { mrs: false, spare: false, ..Pins::of(self.random.bits()) }.record();
+        let mut record = Pins { mrs: false, ..Pins::of(self.random.bits()) }.record();
         for _ in 0..9 {
             records.push(record);
             known.sample(record, &mut memory);

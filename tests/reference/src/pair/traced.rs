@@ -24,6 +24,7 @@ impl Traced for Watched {
             (9, Corner::PairStopNine),
             (10, Corner::PairStopTen),
             (11, Corner::PairStopEleven),
+            (12, Corner::PairStopTwelve),
         ],
         left_over: &[
             Corner::PairLeftOverOne,

@@ -9,6 +9,7 @@ use crate::generator::Generator;
 use crate::pins::{Pins, SHARED_FROM};
 use crate::plans::{self, Amount, Job};
 use crate::random::Random;
+use crate::refusals::data_asked;
 use crate::steering;
 
 /// Whether the user asks for a write or a read only while the composite flag allows it, the closed loop, or whatever it
@@ -37,7 +38,7 @@ impl Traffic {
             pins = restrained;
         }
         let mut sample = [pins; 2];
-        sample[1 - self.lead] = self.beside(pins);
+        sample[1 - self.lead] = self.beside(pins, data_asked(&watched.pair.halves[self.lead], pins));
         let rare = pins.in_reset() || !watched.pair.halves[0].started();
         if self.spoiled > 0 && self.random.one_in(if rare { 2 } else { self.spoiled }) {
             self.spoil(sample)
@@ -46,35 +47,36 @@ impl Traffic {
         }
     }
 
-    /// Now and then a write where one half alone has seen a retransmit, and a sample before any Master Reset.
+    /// Often a write where one half alone has seen a retransmit, and a sample before any Master Reset.
     fn wanted(&mut self, pair: &Pair) -> Pins {
         let [lead, other] = [self.lead, 1 - self.lead].map(|half| &pair.halves[half]);
         let mut pins = self.generator.propose(lead, |pins| pair.refusal([pins; 2]).is_none());
-        let number = if lead.started() { 10 } else { 5 };
+        let number = if lead.started() { self.random.pick(&[10, 12]) } else { 5 };
         let there = number == 5 || lead.retransmit_seen() != other.retransmit_seen();
-        if self.spoiled > 0 && there && self.random.flip() {
+        if self.spoiled > 0 && there && !self.random.one_in(4) {
             steering::spoil(number, &mut pins, lead, &mut self.random);
         }
         pins
     }
 
-    /// The same sample with skew marks and D of its own.
-    fn beside(&mut self, pins: Pins) -> Pins {
+    /// The same sample with skew marks and D of its own. Where D is asked for it is unsettled only if the other is.
+    fn beside(&mut self, pins: Pins, asked: bool) -> Pins {
         Pins {
             write_skew_met: pins.write_skew_met != self.random.flip(),
             read_skew_met: pins.read_skew_met != self.random.flip(),
+            unsettled: (pins.unsettled || !asked) && self.random.flip(),
             data: if self.random.flip() { pins.data } else { self.random.bits() >> 14 },
             ..pins
         }
     }
 
-    /// Bit 18 in either record or in both, or another pin apart, or both of it.
+    /// D unsettled in either record or in both, or another pin apart, or both of it; in a reset only a pin apart is refused.
     fn spoil(&mut self, mut sample: [Pins; 2]) -> [u32; 2] {
         let kind = self.random.below(10);
-        sample[0].spare |= matches!(kind, 0 | 2 | 3);
-        sample[1].spare |= matches!(kind, 1..=3);
+        sample[0].unsettled |= matches!(kind, 0 | 2 | 3);
+        sample[1].unsettled |= matches!(kind, 1..=3);
         let mut records = sample.map(Pins::record);
-        if kind > 2 {
+        if kind > 2 || sample[0].in_reset() {
             records[self.random.below(2) as usize] ^= 1 << (u64::from(SHARED_FROM) + self.random.below(11));
         }
         records

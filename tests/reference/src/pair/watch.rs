@@ -21,6 +21,18 @@ const APART: [Corner; 11] = [
     Corner::PairApartMasterReset,
 ];
 
+/// By the number that each part by itself gives.
+const OWN: [(Corner, [Option<u32>; 2]); 8] = [
+    (Corner::PairTenLeft, [Some(10), None]),
+    (Corner::PairTenRight, [None, Some(10)]),
+    (Corner::PairTenBoth, [Some(10), Some(10)]),
+    (Corner::PairTwelveLeft, [Some(12), None]),
+    (Corner::PairTwelveRight, [None, Some(12)]),
+    (Corner::PairTwelveBoth, [Some(12), Some(12)]),
+    (Corner::PairTwelveFirst, [Some(12), Some(10)]),
+    (Corner::PairTenFirst, [Some(10), Some(12)]),
+];
+
 impl Corners {
     pub(super) fn pair_taken(&mut self, before: &Onlooker, pins: [Pins; 2], answers: [u32; 2], after: &Watched) {
         let mut note = |corner, reached| self.note(&after.pair.halves[0], corner, reached);
@@ -41,19 +53,13 @@ impl Corners {
         note(Corner::PairDataApart, accepted && left.data != right.data);
         note(Corner::PairWriteMarkApart, rises.write && left.write_skew_met != right.write_skew_met);
         note(Corner::PairReadMarkApart, rises.read && left.read_skew_met != right.read_skew_met);
+        note(Corner::PairUnsettledApart, rises.write && left.unsettled != right.unsettled);
     }
 
     pub(super) fn pair_refused(&mut self, pair: &Pair, pins: [Pins; 2], number: u32) {
         let mut note = |corner, reached| self.note(&pair.halves[0], corner, reached);
         let held: Vec<u32> = pair.conditions(pins).collect();
         match number {
-            4 => {
-                let spare = pins.map(|pins| pins.spare);
-                note(Corner::PairSpareLeft, spare == [true, false]);
-                note(Corner::PairSpareRight, spare == [false, true]);
-                note(Corner::PairSpareBoth, spare == [true, true]);
-                note(Corner::PairSpareFirst, held[1..].contains(&11));
-            }
             11 => {
                 let [left, right] = pins.map(Pins::record);
                 let apart = (left ^ right) >> SHARED_FROM;
@@ -61,6 +67,7 @@ impl Corners {
                 note(Corner::PairApartInReset, pair.halves[0].started() && pins.iter().all(|pins| pins.in_reset()));
                 note(Corner::PairApartUnstarted, held[1..].contains(&5));
                 note(Corner::PairApartFirst, held[1..].iter().any(|number| (6..=10).contains(number)));
+                note(Corner::PairApartUnsettled, held[1..].contains(&12));
             }
             5 => note(Corner::PairFive, true),
             6 => note(Corner::PairSix, true),
@@ -69,9 +76,7 @@ impl Corners {
             9 => note(Corner::PairNine, true),
             _ => {
                 let own = [0, 1].map(|half| refusal(&pair.halves[half], pins[half]));
-                note(Corner::PairTenLeft, own == [Some(10), None]);
-                note(Corner::PairTenRight, own == [None, Some(10)]);
-                note(Corner::PairTenBoth, own == [Some(10), Some(10)]);
+                OWN.into_iter().for_each(|(corner, expected)| note(corner, own == expected));
             }
         }
     }

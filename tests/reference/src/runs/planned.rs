@@ -70,12 +70,9 @@ const WRONG: [Change; 7] = [
     |run, random| run.trace.extend(&[0x4D, 0x98, 0][..1 + random.below(3) as usize]),
 ];
 
-/// What is made other: a record refused 4, no record at all, more room than is needed.
+/// What is made other: no record settled, no record at all, more room than is needed.
 const OTHER: [Change; 3] = [
-    |run, random| {
-        let place = random.below(run.whole_records() as u64) as usize;
-        run.trace[4 * place + 1] |= 4;
-    },
+    |run, _| run.trace.chunks_exact_mut(4).for_each(|record| record[1] |= 4),
     |run, _| run.trace.clear(),
     |run, random| {
         run.answers += 1 + random.below(7) as usize;

@@ -16,13 +16,10 @@ impl Corners {
         let words = model.written();
         self.reasons(model, pins);
         match number {
-            4 => {
-                self.note(model, Corner::RefusedSpare, !pins.in_reset());
-                self.note(model, Corner::RefusedSpareReset, pins.in_reset());
-            }
             5 => {
                 self.note(model, Corner::RefusedBeforeReset, pins.prs);
                 self.note(model, Corner::RefusedBeforePartial, !pins.prs);
+                self.note(model, Corner::RefusedBeforeUnsettled, pins.unsettled);
             }
             6 => {
                 self.note(model, Corner::RefusedWriteRise, write_rise && !read_rise);
@@ -44,10 +41,18 @@ impl Corners {
                 self.note(model, Corner::RefusedOneMore, words == allowed.end() + 1);
                 self.note(model, Corner::RefusedPassed, words > WIDTH && allowed.contains(&(words % WIDTH)));
             }
-            _ => {
+            10 => {
                 let crossed = first_stage(&model.writes, &model.reads).number >= model.retransmit;
                 self.note(model, Corner::RefusedUnseenFirst, !crossed);
                 self.note(model, Corner::RefusedUnseenSecond, crossed);
+            }
+            _ => {
+                let n_next = model.offsets.loads.is_multiple_of(2);
+                self.note(model, Corner::RefusedUnsettledWrite, pins.ld);
+                self.note(model, Corner::RefusedUnsettledFull, pins.ld && model.full());
+                self.note(model, Corner::RefusedUnsettledRead, pins.ld && read_rise && !pins.ren && model.ready());
+                self.note(model, Corner::RefusedUnsettledFirst, !pins.ld && n_next);
+                self.note(model, Corner::RefusedUnsettledSecond, !pins.ld && !n_next);
             }
         }
     }
@@ -55,7 +60,6 @@ impl Corners {
     /// Samples for which two numbers hold, so that the order decides.
     fn reasons(&mut self, model: &Model, pins: Pins) {
         let held: Vec<u32> = conditions(model, pins).collect();
-        self.note(model, Corner::ReasonsSpare, held[0] == 4 && held.len() > 1);
         let pairs = [
             (6, 7, Corner::ReasonsLoad),
             (6, 8, Corner::ReasonsLoadRetransmit),
@@ -63,6 +67,10 @@ impl Corners {
             (7, 9, Corner::ReasonsMethodWords),
             (8, 9, Corner::ReasonsRetransmitWords),
             (8, 10, Corner::ReasonsRetransmitUnseen),
+            (6, 12, Corner::ReasonsLoadUnsettled),
+            (7, 12, Corner::ReasonsMethodUnsettled),
+            (8, 12, Corner::ReasonsRetransmitUnsettled),
+            (10, 12, Corner::ReasonsUnseenUnsettled),
         ];
         for (first, second, corner) in pairs {
             self.note(model, corner, held[0] == first && held[1..].contains(&second));
