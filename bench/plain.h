@@ -74,7 +74,7 @@ struct plain_state plain_power_up(void);
 // Refusals 1 to 3, or 0.
 uint32_t plain_setting(uint32_t number, const struct plain_state *state, size_t words, bool room_fits);
 
-// One record in a setting that was found good: 5 to 12 with nothing moved, or 0 with state, memory and answer moved on.
+// One record in a setting that was found good: 5 to 10 or 12 with nothing moved, or 0 with state, memory and answer moved on.
 uint32_t plain_step(const struct plain_part *part, uint32_t record, struct plain_state *state, uint32_t *memory,
                     uint32_t *answer);
 

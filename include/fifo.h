@@ -70,7 +70,8 @@ uint32_t fifo_power_up(uint8_t *state, size_t state_len);
  *   10   WCLK rises with LD HIGH and WEN LOW before the write side has seen the last retransmit
  *   12   WCLK rises with WEN LOW and bit 18 set: a write, full or not, or a parallel load of data that had not settled
  *
- * 6 to 12 only with MRS and PRS HIGH; 11 is given by the pair of parts alone, not here. After a refusal the next sample goes on from where the last one taken left off. */
+ * 6 to 10 and 12 only with MRS and PRS HIGH; 11 is no number of one part. After a refusal the next sample goes on from
+ * where the last one taken left off. */
 uint32_t fifo_sample(uint32_t part, const uint8_t *record, size_t record_len, uint8_t *state, size_t state_len,
                      uint8_t *memory, size_t memory_len, uint8_t *answer, size_t answer_len);
 

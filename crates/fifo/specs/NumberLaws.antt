@@ -45,6 +45,11 @@ not-deep part words n = ne-eqb words (depthOf part) (λ e. n (e ∙ sym (same-de
 pub deep : (part : Part) (words : ℕ) → words ≡ wordsIn part → isDepth part words ≡ true
 deep part words whole = eq-eqb words (depthOf part) (whole ∙ same-depth part)
 
+-- in any state, whether or not it passes 3, as a run may reach it
+pub by-pins : (part : Part) (x : ℕ) (s : State) → recordRefusal part x s ≡ refusalOf part (pinsOf x) s
+unfolding recordRefusal
+by-pins part x s = refl
+
 module _ (x : ℕ) (s : State) (words : ℕ) where
   pub one-comes : (number : ℕ) → number ≢ 255 → number ≢ 265 → sampleRefusal number x s words ≡ 1
   unfolding sampleRefusal
@@ -63,8 +68,8 @@ module _ (x : ℕ) (s : State) (words : ℕ) where
       module _ (passed : passes part s ≡ true) where
         -- 5 to 10 and 12, or 0 where the sample is taken; a record that is a number is never 4
         pub rest-by-pins : sampleRefusal (askedBy part) x s words ≡ refusalOf part (pinsOf x) s
-        unfolding sampleRefusal recordRefusal
-        rest-by-pins = simp (known part, deep part words whole, passed)
+        unfolding sampleRefusal
+        rest-by-pins = simp (known part, deep part words whole, passed, by-pins part x s)
 
 -- what comes of a number: it is the outcome's, the sample is taken with 0 alone, and with another nothing moved
 pub record Numbered (number : ℕ) (a : After) (s : State) (memory : List ℕ) : Type 0 where

@@ -57,7 +57,7 @@ fetchedFor part s memory = getD memory (placeOf (depthOf part) (s .read .count .
 unfoldable pub taken : Part → Pins → State → List ℕ → After
 taken part p s memory = took (advanced part p (fetchedFor part s memory) s) memory
 
--- a record of four bytes is judged by its pins, D's mark among them
+-- a record of four bytes is judged by its pins and D's mark
 unfoldable pub recordRefusal : Part → ℕ → State → ℕ
 recordRefusal part x s = refusalOf part (pinsOf x) s
 

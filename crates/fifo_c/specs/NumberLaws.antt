@@ -13,8 +13,7 @@ use Rattle.buffers.specs.NumberLaws.{memoryLength}
 use Rattle.buffers.specs.Verdict.{judged}
 use Rattle.counts.specs.declared.part.Part.{Part}
 use Rattle.counts.specs.declared.part.Part.the-variants.{Idt72V255LA, Idt72V265LA}
-use Rattle.fifo.specs.NumberLaws.{askedBy}
-use Rattle.fifo.specs.Sample.{recordRefusal}
+use Rattle.fifo.specs.NumberLaws.{askedBy, by-pins}
 use Rattle.pins.specs.Record.{pinsOf}
 use Rattle.refusals.specs.Refuse.{refusalOf}
 use Rattle.spelling.specs.Spelling.{stateIn}
@@ -38,10 +37,10 @@ module _ (number : ℕ) (bytes state memory answer : List ℕ) where
   module _ (part : Part) (x : ℕ) (works : judged number bytes state (length memory) (length answer) ≡ Work part x) where
     -- 5 to 10 and 12, or 0 where the record is taken
     pub rest-by-pins : called number bytes state memory answer .code ≡ refusalOf part (pinsOf x) (stateIn state)
-    unfolding called worked recordRefusal
+    unfolding called worked
     rest-by-pins =
         let refusal = refusalOf part (pinsOf x) (stateIn state) in
-        simp works (taken-by part x state memory answer refusal (eqb refusal 0) refl)
+        simp (works, by-pins part x (stateIn state)) (taken-by part x state memory answer refusal (eqb refusal 0) refl)
 
 module _ (state : List ℕ) where
   pub power-up-gives-zero : length state ≡ 48 → powered state .code ≡ 0

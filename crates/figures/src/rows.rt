@@ -113,7 +113,7 @@ pub(crate) const READ_OFFSET: u64 = READ - LD + 1;
 
 pub(crate) const OUTPUT_OFF: u64 = IDLE + OE + 1;
 
-// A write asked in a Master Reset and in a Partial Reset, where nothing is asked.
+// WCLK going HIGH with WEN LOW in a Master Reset and in a Partial Reset: no write is asked there.
 pub(crate) const RESET_AND_WRITE: u64 = RESET + WCLK - WEN;
 
 pub(crate) const PARTIAL_RESET_AND_WRITE: u64 = PUT - PRS;

@@ -1,4 +1,4 @@
-// What is turned away: a sample for each number, and the answer to the next one. No LOW sample comes in between: the
+// What is turned away: a sample for each number that one can get, and the answer to the next one. No LOW sample comes in between: the
 // refused one must not have moved RCLK's last level either.
 use super::bench;
 use super::rows;

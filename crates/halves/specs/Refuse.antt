@@ -1,4 +1,4 @@
--- Two parts side by side: what is turned away from 11 on.
+-- Two parts side by side: 11, and then each part's own number.
 use Prim.Native.Nat.{ℕ}
 use Rattle.counts.specs.declared.part.Part.{Part}
 use Rattle.fifo.specs.Sample.{recordRefusal}

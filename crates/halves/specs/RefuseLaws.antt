@@ -4,7 +4,7 @@ use mathlib.Core.Logic.{_≢_}
 use mathlib.Core.Path.{_≡_}
 use borrow.Author.Tests.{eq-eqb, ne-eqb}
 use Rattle.counts.specs.declared.part.Part.{Part}
-use Rattle.fifo.specs.Sample.{recordRefusal}
+use Rattle.fifo.specs.NumberLaws.{by-pins}
 use Rattle.pins.specs.Record.{pinsOf}
 use Rattle.refusals.specs.Refuse.{refusalOf}
 use Rattle.halves.specs.declared.state.Halves.{Halves}
@@ -19,5 +19,6 @@ module _ (part : Part) (x : Two ℕ) (h : Halves) where
 
   pub then-by-parts : x .left / 2 ^ 21 ≡ x .right / 2 ^ 21
       → pairRefusal part x h ≡ firstOf (refusalOf part (pinsOf (x .left)) (h .left)) (refusalOf part (pinsOf (x .right)) (h .right))
-  unfolding pairRefusal recordRefusal
-  then-by-parts same = simp (eq-eqb (x .left / 2 ^ 21) (x .right / 2 ^ 21) same)
+  unfolding pairRefusal
+  then-by-parts same =
+      simp (by-pins part (x .left) (h .left), by-pins part (x .right) (h .right), eq-eqb (x .left / 2 ^ 21) (x .right / 2 ^ 21) same)

@@ -3,7 +3,7 @@ use Prim.Native.Nat.{ℕ}
 use mathlib.Core.Bool.{Bool, true, false, cond}
 use mathlib.Core.List.{List, [], _∷_}
 use mathlib.Core.Logic.{_≢_}
-use mathlib.Core.Path.{_≡_, refl, sym, subst}
+use mathlib.Core.Path.{_≡_, refl, sym, subst, _∙_}
 use lib.Dec.{eqb}
 use lib.ListN.{length}
 use borrow.Author.Tests.{eq-eqb, eqb-true}
@@ -20,6 +20,7 @@ use Rattle.counts.specs.Part.{depthOf, numberOf}
 use Rattle.counts.specs.PartLaws.{own-number}
 use Rattle.fifo.specs.Sample as sample
 use Rattle.fifo.specs.Sample.{After, fetchedFor, isTaken, recordRefusal, stepped, taken, took, turnedAway}
+use Rattle.fifo.specs.NumberLaws.{by-pins}
 use Rattle.fifo.specs.SampleLaws.{sample-is-step}
 use Rattle.pins.specs.Record.{pinsOf}
 use Rattle.views.specs.TrueCounts.{TrueCounts, noCounts}
@@ -29,10 +30,10 @@ use Rattle.history.specs.Trace.{Moment, led, movedTo, next, outcome, pow
 
 -- of the numbers that a record can be refused with, none is 3
 pub not-three : (part : Part) (x : ℕ) (s : State) → recordRefusal part x s ≢ 3
-unfolding recordRefusal
 not-three part x s =
-    numbers (λ (n : ℕ). n ≢ 3) part (pinsOf x) s (λ e. omega arith) (λ e. omega arith) (λ e. omega arith) (λ e. omega arith) (λ e. omega arith)
-    (λ e. omega arith) (λ e. omega arith) (λ row e. omega arith)
+    rw (by-pins part x s)
+    (numbers (λ (n : ℕ). n ≢ 3) part (pinsOf x) s (λ e. omega arith) (λ e. omega arith) (λ e. omega arith) (λ e. omega arith) (λ e. omega arith)
+    (λ e. omega arith) (λ e. omega arith) (λ row e. omega arith))
 
 number-by : (is : Bool) (a : Advanced) (number : ℕ) (s : State) (memory : List ℕ) → number ≢ 3
     → sample.numberOf (cond is (took a memory) (turnedAway number s memory) .sampled .outcome) ≢ 3
@@ -65,8 +66,7 @@ module _ (part : Part) where
         (reached-passes part (m .state) t (g .reached))
 
     not-refused : eqb (recordRefusal part x (m .state)) 0 ≡ true → refusalOf part (pinsOf x) (m .state) ≡ 0
-    unfolding recordRefusal
-    not-refused e = eqb-true _ _ e
+    not-refused e = sym (by-pins part x (m .state)) ∙ eqb-true _ _ e
 
     told-by : (is : Bool) → eqb (recordRefusal part x (m .state)) 0 ≡ is
         → let a = cond is (taken part (pinsOf x) (m .state) (m .memory)) (turnedAway (recordRefusal part x (m .state)) (m .state) (m .memory)) in

@@ -7,6 +7,7 @@ use borrow.Author.Tests.{eqb-true, not-true}
 use Rattle.chip.specs.Advance.{advanced, stored}
 use Rattle.counts.specs.declared.part.Part.{Part}
 use Rattle.counts.specs.Both.{both}
+use Rattle.fifo.specs.NumberLaws.{by-pins}
 use Rattle.fifo.specs.Sample.{After, fetchedFor, isTaken, recordRefusal, stepped, taken, turnedAway}
 use Rattle.pins.specs.declared.record.Pins.{Pins}
 use Rattle.pins.specs.Record.{pinsOf, unsettledIn}
@@ -63,7 +64,7 @@ module _ (part : Part) (m : Moment) (t : TrueCounts) (g : Told part m t) (x : �
 
   -- paper 02, order 2: a word that is accepted was at rest
   pub accepted-settled : acceptsWord part m x ≡ true → unsettledIn x ≡ false
-  unfolding acceptsWord accepts recordRefusal
+  unfolding acceptsWord accepts
   accepted-settled e =
       let p = pinsOf x in
       let accepted = both (takes part m x) _ e in
@@ -72,5 +73,5 @@ module _ (part : Part) (m : Moment) (t : TrueCounts) (g : Told part m t) (x : �
       let risen = both (wclkRises (m .notes) p) (p .ld) (enabled .0) .0 in
       let rise = both (outside p) (not (m .notes .wclk) && p .wclk) risen in
       let levels = both (not (m .notes .wclk)) (p .wclk) (rise .1) in
-      word-settled part p (m .state) (eqb-true _ _ (sym takes-free ∙ accepted .0)) (both (p .mrs) (p .prs) (rise .0))
+      word-settled part p (m .state) (sym (by-pins part x (m .state)) ∙ eqb-true _ _ (sym takes-free ∙ accepted .0)) (both (p .mrs) (p .prs) (rise .0))
       (sym (g .agrees .wclk) ∙ not-true (m .notes .wclk) (levels .0), levels .1) (not-true (p .wen) (enabled .1))

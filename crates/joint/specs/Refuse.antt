@@ -1,4 +1,4 @@
--- Two parts side by side: what is turned away from 11 on, by the two records and the number that each part has for its own.
+-- Two parts side by side: 11 by the two records, and then the number that each part has for its own.
 use Prim.Native.Nat.{ℕ, _/_, _^_}
 use mathlib.Core.Bool.{Bool, cond}
 use lib.Dec.{eqb}

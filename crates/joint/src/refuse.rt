@@ -1,4 +1,4 @@
-// What is turned away, from 11 on, of two records for two parts side by side.
+// What is turned away of two records for two parts side by side: 11, and then each part's own number.
 ghost use Rattle.joint.specs.Refuse.{numbered, samePins};
 ghost use mathlib.Core.Path.{_≡_};
 

@@ -31,7 +31,7 @@ quiet-free part p s started e =
     let calm = not-true (clockRises p s) (and-eq-true-iff (p .mrs && p .prs) (not (clockRises p s)) .0 e .1) in
     simp (past-five part p s (simp started), calm, and-false)
 
--- 6 to 12 do not apply in a reset
+-- 6 to 10 and 12 do not apply in a reset
 pub reset-taken : (part : Part) (p : Pins) (s : State) → s .started ≡ true → p .mrs && p .prs ≡ false → refusalOf part p s ≡ 0
 unfolding refusalOf
 reset-taken part p s f e = simp (f, e)

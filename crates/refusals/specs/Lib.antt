@@ -3,7 +3,7 @@ pub mod FreeLaws
 pub mod NineLaws
 pub mod Rows
 pub mod RowLaws
-pub mod TwelveLaws
 pub mod RefusalLaws
+pub mod TwelveLaws
 pub mod ReachLaws
 pub mod Unique

@@ -55,7 +55,7 @@ Row12 p s = WriteRise p s × Low (p .wen) × High (p .unsettled)
 abbrev pub Given : ℕ → ℕ → Type 0 → Type 0 → Type 0
 Given k number Row Further = (Row × (k ≡ number)) ⊎ ((¬ Row) × Further)
 
--- k is the number of the first row that holds, or 0 where none does; 6 to 12 apply only outside reset
+-- k is the number of the first row that holds, or 0 where none does; 6 to 10 and 12 apply only outside reset
 abbrev pub FirstRow : ℕ → Part → Pins → State → ℕ → Type 0
 FirstRow accepted part p s k =
     Given k 5 (Row5 p s)

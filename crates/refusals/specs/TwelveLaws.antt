@@ -23,17 +23,17 @@ use Rattle.refusals.specs.Refuse.{asksUnselected, fromEight, fromSix, fr
 use Rattle.refusals.specs.RowLaws.{row-twelve}
 
 -- the number of a sample, by whether its mark is judged and by the number of the same sample with D at rest
-abbrev marked : Bool → ℕ → ℕ
-marked judged same = cond (eqb same 0) (cond judged 12 0) same
+abbrev byMark : Bool → ℕ → ℕ
+byMark judged same = cond (eqb same 0) (cond judged 12 0) same
 
 -- behind a row that does not look at the mark
 behind : (row : Bool) {at-rest : Bool} (number : ℕ) (judged : Bool) (further same : ℕ) → at-rest ≡ row → eqb number 0 ≡ false
-    → further ≡ marked judged same → cond row number further ≡ marked judged (cond at-rest number same)
+    → further ≡ byMark judged same → cond row number further ≡ byMark judged (cond at-rest number same)
 behind true number judged further same r e f = simp (r, e)
 behind false number judged further same r e f = simp r f
 
-outside-only : (outside judged : Bool) (number same : ℕ) → number ≡ marked judged same
-    → cond outside number 0 ≡ marked (outside && judged) (cond outside same 0)
+outside-only : (outside judged : Bool) (number same : ℕ) → number ≡ byMark judged same
+    → cond outside number 0 ≡ byMark (outside && judged) (cond outside same 0)
 outside-only true judged number same e = e
 outside-only false judged number same e = refl
 
@@ -41,7 +41,7 @@ unmarked : (free : Bool) (same : ℕ) → eqb same 0 ≡ free → cond free 0 sa
 unmarked true same e = sym (eqb-true same 0 e)
 unmarked false same e = refl
 
-same-by : (judged : Bool) (number same : ℕ) → number ≡ marked judged same → (judged ≡ true → same ≢ 0) → number ≡ same
+same-by : (judged : Bool) (number same : ℕ) → number ≡ byMark judged same → (judged ≡ true → same ≢ 0) → number ≡ same
 same-by true number same e n = e ∙ simp (ne-eqb same 0 (n refl))
 same-by false number same e n = e ∙ unmarked (eqb same 0) same refl
 
@@ -80,7 +80,7 @@ module _ (part : Part) (p : Pins) (s : State) where
   unfolding refusesSeven writeRises
   seven-at-rest = ap (λ (asks : Bool). writeRises p (s .write) && not (p .ld) && asks) (unselected-at-rest (s .offsets .method) p)
 
-  judged-last : refusalOf part p s ≡ marked judged (refusalOf part (settled p) s)
+  judged-last : refusalOf part p s ≡ byMark judged (refusalOf part (settled p) s)
   unfolding readRises refusalOf refusesSix refusesEight refusesNine refusesTen retransmits writeRises
   judged-last =
       let rest = settled p in
@@ -114,7 +114,7 @@ module _ (part : Part) (p : Pins) (s : State) where
   pub others-first : refusalOf part (settled p) s ≢ 0 → refusalOf part p s ≡ refusalOf part (settled p) s
   others-first some = same-where (λ e. some)
 
-  -- in a reset, without a rise of WCLK and with WEN HIGH the mark changes nothing
+  -- in a reset, without a rise of WCLK or with WEN HIGH the mark changes nothing
   pub not-asked : ¬ (Outside p × WriteRise p s × Low (p .wen)) → refusalOf part p s ≡ refusalOf part (settled p) s
   not-asked n = same-where (λ e. (let all = high-where told .0 e in absurd (n (all .0, all .1 .0, all .1 .1))))
 

@@ -24,7 +24,7 @@ struct Traffic {
     generator: Generator,
     random: Random,
     user: User,
-    /// The half that the generator has in view, and whose D and skew marks it chooses.
+    /// The half that the generator has in view, and whose D and marks it chooses.
     lead: usize,
     spoiled: u64,
 }
