@@ -1,5 +1,5 @@
 pub mod Record
 pub mod Answer
 pub mod Trace
-pub mod TraceLaws
 pub mod Laws
+pub mod TraceLaws
