@@ -21,7 +21,7 @@ pub fn refusal(part: Part, p: Pins, s: State) -> u8
     }
 }
 
-// 6 and 7 are for LD LOW, 8 and 9 for a retransmit: each pair is looked at only there.
+// 6 and 7 are for LD LOW, 8 and 9 for a retransmit, 10 and 12 for WEN LOW: each pair is looked at only there.
 fn refuse_rise(part: Part, p: Pins, s: State) -> u8
     ensures { λ r. ⌜ r ≡ fromSix part p s ⌝ }
 {
@@ -55,9 +55,13 @@ fn refuse_from_eight(part: Part, p: Pins, s: State) -> u8
 fn refuse_from_ten(p: Pins, s: State) -> u8
     ensures { λ r. ⌜ r ≡ fromTen p s ⌝ }
 {
-    let ten = refuses_ten(p, s);
-    let twelve = refuses_twelve(p, s);
-    pick(ten, 10, pick(twelve, 12, 0))
+    if p.wen {
+        0
+    } else {
+        let ten = refuses_ten(p, s);
+        let twelve = refuses_twelve(p, s);
+        pick(ten, 10, pick(twelve, 12, 0))
+    }
 }
 
 fn pick(applies: bool, number: u8, otherwise: u8) -> u8
