@@ -36,7 +36,7 @@ fn hold(part: Part, word: u32, state: &mut [u8], answer: &mut [u8])
     let s = spelling::state::read_state(state);
     let given = chip::answer::answer(part, p, s);
     notes::answers::put_answer(answer, 0, given);
-    let enables = chip::enables::enables_after(p, s.enables);
+    let enables = chip::enables::enables_after(p, s);
     spelling::state::put_remembered(p.wclk, p.rclk, enables, state);
 }
 

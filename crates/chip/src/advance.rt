@@ -3,6 +3,7 @@ ghost use Rattle.chip.specs.Advance.{Advances, running, stateAfter, stor
 ghost use Rattle.chip.specs.State.{widths};
 ghost use mathlib.Core.Bool.{true};
 ghost use mathlib.Core.Path.{_≡_};
+use super::enables::Enables;
 use super::state::State;
 use counts::part::Part;
 use pins::record::Pins;
@@ -60,14 +61,19 @@ fn run(part: Part, p: Pins, fetched: u32, s: State) -> State
     let reading = offsets::reading::read_offset(p, read_rises, before, s.reading);
     let write = sides::write::write_after(part, before.m, p, s.read, s.write);
     let read = sides::read::read_after(before.n, p, fetched, s.write, s.read);
-    let enables = super::enables::enables_after(p, s.enables);
+    let enables = super::enables::enables_after(p, s);
     State {
         started: s.started,
         write: write,
         read: read,
         offsets: offsets,
         reading: reading,
-        enables: enables,
+        enables: Enables {
+            rt: enables.rt,
+            ren: enables.ren,
+            wen: enables.wen,
+            clean: enables.clean,
+        },
     }
 }
 

@@ -1,6 +1,7 @@
 // Enables before retransmit (paper 02, order 3): what is remembered of RT, REN and WEN.
 ghost use Rattle.chip.specs.Enables.{enablesAfter, lastFallClean};
 ghost use mathlib.Core.Path.{_≡_};
+use super::state::State;
 use pins::record::Pins;
 
 // The levels in the last sample taken, and whether REN and WEN were HIGH at RT's last fall and in the sample taken before it.
@@ -12,20 +13,20 @@ pub struct Enables {
 }
 
 // The fall that an RT LOW in this sample belongs to: this sample's, or an earlier one's.
-pub fn is_last_fall_clean(p: Pins, last: Enables) -> bool
-    ensures { λ r. ⌜ r ≡ lastFallClean p last ⌝ }
+pub fn is_last_fall_clean(p: Pins, s: State) -> bool
+    ensures { λ r. ⌜ r ≡ lastFallClean p (s .enables) ⌝ }
 {
-    if last.rt & !p.rt {
-        p.ren & p.wen & last.ren & last.wen
+    if s.enables.rt & !p.rt {
+        p.ren & p.wen & s.enables.ren & s.enables.wen
     } else {
-        last.clean
+        s.enables.clean
     }
 }
 
-pub fn enables_after(p: Pins, last: Enables) -> Enables
-    ensures { λ r. ⌜ r ≡ enablesAfter p last ⌝ }
+pub fn enables_after(p: Pins, s: State) -> Enables
+    ensures { λ r. ⌜ r ≡ enablesAfter p (s .enables) ⌝ }
 {
-    let clean = is_last_fall_clean(p, last);
+    let clean = is_last_fall_clean(p, s);
     Enables {
         rt: p.rt,
         ren: p.ren,

@@ -1,6 +1,7 @@
 // A sample outside reset in which no clock rises: it takes the short way.
 ghost use Rattle.chip.specs.Quiet.{clockRises, held, quiet};
 ghost use mathlib.Core.Path.{_≡_};
+use super::enables::Enables;
 use super::state::State;
 use pins::record::Pins;
 
@@ -28,13 +29,18 @@ pub fn hold(p: Pins, s: State) -> State
     let held_read = sides::read::hold(p.rclk, latest_write, read);
     let offsets = s.offsets;
     let reading = s.reading;
-    let enables = super::enables::enables_after(p, s.enables);
+    let enables = super::enables::enables_after(p, s);
     State {
         started: s.started,
         write: held_write,
         read: held_read,
         offsets: offsets,
         reading: reading,
-        enables: enables,
+        enables: Enables {
+            rt: enables.rt,
+            ren: enables.ren,
+            wen: enables.wen,
+            clean: enables.clean,
+        },
     }
 }

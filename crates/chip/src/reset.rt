@@ -37,7 +37,7 @@ pub(crate) fn reset_master(p: Pins, s: State) -> State
     let mode = select_mode(p.fwft);
     let offsets = offsets::registers::reset_offsets(p.ld);
     let reading = offsets::reading::end_showing(Next::N);
-    let enables = super::enables::enables_after(p, s.enables);
+    let enables = super::enables::enables_after(p, s);
     clear(true, p.wclk, p.rclk, mode, offsets, reading, enables)
 }
 
@@ -50,7 +50,7 @@ pub(crate) fn reset_partial(p: Pins, s: State) -> State
     let before_reading = s.reading;
     let next = before_reading.next;
     let reading = offsets::reading::end_showing(next);
-    let enables = super::enables::enables_after(p, s.enables);
+    let enables = super::enables::enables_after(p, s);
     clear(s.started, p.wclk, p.rclk, mode, s.offsets, reading, enables)
 }
 
@@ -90,7 +90,12 @@ fn clear(
         },
         offsets: offsets,
         reading: reading,
-        enables: enables,
+        enables: Enables {
+            rt: enables.rt,
+            ren: enables.ren,
+            wen: enables.wen,
+            clean: enables.clean,
+        },
     }
 }
 

@@ -94,7 +94,7 @@ fn refuses_eight(p: Pins, s: State) -> bool
     ensures { λ r. ⌜ r ≡ refusesEight p s ⌝ }
 {
     sides::read::is_retransmit(p, s.read)
-        & (!p.ren | !p.wen | !chip::enables::is_last_fall_clean(p, s.enables))
+        & (!p.ren | !p.wen | !chip::enables::is_last_fall_clean(p, s))
 }
 
 fn refuses_nine(part: Part, p: Pins, s: State) -> bool
