@@ -70,7 +70,7 @@ fn sides(part: Part, n: u16, m: u16, random: &mut Random) -> (Side, Side) {
 
 /// Any of them is a state's, with RT HIGH after an unclean fall too.
 fn enables(random: &mut Random) -> Enables {
-    Enables { rt: random.flip(), ren: !random.one_in(3), wen: !random.one_in(3), clean: random.flip() }
+    Enables { rt: random.flip(), ren: !random.one_in(4), wen: !random.one_in(4), clean: !random.one_in(3) }
 }
 
 pub fn passing(part: Part, random: &mut Random) -> Handed {
@@ -136,14 +136,14 @@ pub fn record(fields: &Fields, random: &mut Random) -> u32 {
     let reset_odds = if fields.started { 32 } else { 2 };
     (pins.mrs, pins.prs) = (!random.one_in(reset_odds), !random.one_in(32));
     (pins.wclk, pins.rclk) = (!random.one_in(4), !random.one_in(4));
-    let wish = random.below(8);
+    let wish = random.below(9);
     if wish > 0 {
         (pins.wen, pins.ren, pins.sen, pins.rt, pins.ld) = (true, true, true, true, wish < 5);
     }
     match wish {
         1 | 2 => (pins.wen, pins.ren) = (random.one_in(8), random.flip()),
         3 => (pins.wen, pins.ren) = (random.flip(), random.one_in(8)),
-        4 => (pins.rt, pins.ld) = (false, random.flip()),
+        4 | 8 => (pins.rt, pins.ld) = (false, random.flip()),
         5 if fields.method == Method::Parallel => pins.wen = false,
         5 => pins.sen = false,
         6 => pins.ren = false,
