@@ -131,9 +131,9 @@ impl Generator {
     /// A rise with RT LOW shows whether anything of a refused sample was remembered, such as a fall that would be clean.
     fn retransmit_after(&mut self, model: &Model) {
         let fall = Pins { rt: false, rclk: false, ..calm(model) };
-        if self.random.one_in(3) {
-            let wen = self.random.flip();
-            self.coming.push_back(Pins { wen, ren: !wen, ..fall });
+        let (wen, ren) = self.random.pick(&[(true, true), (true, true), (true, false), (false, true)]);
+        if model.rclk || !wen || !ren {
+            self.coming.push_back(Pins { wen, ren, ..fall });
         }
         self.coming.push_back(Pins { rclk: true, ..fall });
     }
