@@ -124,14 +124,18 @@ impl Generator {
             self.coming.push_back(Pins { unsettled: false, ..*pins });
         }
         if matches!(self.scene, Scene::Falls) {
-            self.retransmit_after(model);
+            pins.ren |= number == 7;
+            self.retransmit_after(*pins, model);
         }
     }
 
-    /// A rise with RT LOW shows whether anything of a refused sample was remembered, such as a fall that would be clean.
-    fn retransmit_after(&mut self, model: &Model) {
+    /// A rise with RT LOW shows whether anything of a refused sample was remembered: RT and both enables HIGH as if before a
+    /// fall, or a fall as if it were the last one.
+    fn retransmit_after(&mut self, refused: Pins, model: &Model) {
         let fall = Pins { rt: false, rclk: false, ..calm(model) };
-        let (wen, ren) = self.random.pick(&[(true, true), (true, true), (true, false), (false, true)]);
+        let before = refused.rt && refused.wen && refused.ren;
+        let kept = if before { 0 } else { self.random.below(4) };
+        let (wen, ren) = (kept != 1, kept != 2);
         if model.rclk || !wen || !ren {
             self.coming.push_back(Pins { wen, ren, ..fall });
         }
