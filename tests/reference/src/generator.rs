@@ -124,6 +124,7 @@ impl Generator {
             self.coming.push_back(Pins { unsettled: false, ..*pins });
         }
         if matches!(self.scene, Scene::Falls) {
+            // Often with nothing LOW that a fall is judged by.
             pins.ren |= number == 7;
             self.retransmit_after(*pins, model);
         }
@@ -134,8 +135,8 @@ impl Generator {
     fn retransmit_after(&mut self, refused: Pins, model: &Model) {
         let fall = Pins { rt: false, rclk: false, ..calm(model) };
         let before = refused.rt && refused.wen && refused.ren;
-        let kept = if before { 0 } else { self.random.below(4) };
-        let (wen, ren) = (kept != 1, kept != 2);
+        let low = if before { 0 } else { self.random.below(4) };
+        let (wen, ren) = (low != 1, low != 2);
         if model.rclk || !wen || !ren {
             self.coming.push_back(Pins { wen, ren, ..fall });
         }
