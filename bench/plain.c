@@ -21,7 +21,8 @@ const struct plain_part *plain_part(uint32_t number)
 struct plain_state plain_power_up(void)
 {
     struct plain_state state = {
-        .levels = WCLK | RCLK,
+        .levels = WCLK | RCLK | RT | REN | WEN,
+        .fell_clean = true,
         .write.view = PLAIN_SEEN,
         .read.almost_empty = true,
     };
@@ -117,7 +118,8 @@ uint32_t plain_step(const struct plain_part *part, uint32_t record, struct plain
             return refusal;
         rise(part, state, memory, record, rises);
     }
-    state->levels = record & (WCLK | RCLK);
+    state->fell_clean = fell_clean(state, record);
+    state->levels = record & (WCLK | RCLK | RT | REN | WEN);
     *answer = answer_of(part, state, record);
     return 0;
 }

@@ -1,4 +1,4 @@
-// A plain C model of paper 01 and of order 2 of paper 02, written for comparison: state in a struct, memory in words.
+// A plain C model of paper 01 and of orders 2 and 3 of paper 02, written for comparison: state in a struct, memory in words.
 #ifndef PLAIN_H
 #define PLAIN_H
 
@@ -58,7 +58,8 @@ struct plain_offsets {
 };
 
 struct plain_state {
-    uint32_t levels; // of both clocks, at their places in the record
+    uint32_t levels; // of both clocks, RT, REN and WEN in the last record taken, at their places in it
+    bool fell_clean; // RT last fell with both enables HIGH, in that record and in the one before
     bool master_reset;
     enum plain_mode mode;
     struct plain_write_side write;

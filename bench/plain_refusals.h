@@ -33,9 +33,17 @@ static uint32_t loading_refusal(const struct plain_offsets *offsets, uint32_t re
     return 0;
 }
 
+// Whether RT last fell cleanly, this record counted.
+static bool fell_clean(const struct plain_state *state, uint32_t record)
+{
+    if (low(record, RT) && !low(state->levels, RT))
+        return (record & state->levels & (REN | WEN)) == (REN | WEN);
+    return state->fell_clean;
+}
+
 static uint32_t retransmit_refusal(const struct plain_part *part, const struct plain_state *state, uint32_t record)
 {
-    if (low(record, REN) || low(record, WEN))
+    if (low(record, REN) || low(record, WEN) || !fell_clean(state, record))
         return 8;
     uint32_t most = part->depth - (state->mode == PLAIN_FWFT ? 1 : 2);
     uint32_t accepted = state->write.count;

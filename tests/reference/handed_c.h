@@ -6,7 +6,7 @@
 #include <stdint.h>
 
 // A strict run from a state, and the number that it ended with, 0 for none. `ended` is two numbers: the index of the record
-// that it refused or of the trace's end, and how many records were accepted. The state is 48 bytes, as fifo.h has it, and
+// that it refused or of the trace's end, and how many records were accepted. The state is 52 bytes, as fifo.h has it, and
 // is as the run left it; after 1, 2 or 3 nothing has changed but `ended`, which is 0 and 0. Where the state's bytes spell
 // no state, or a room for a state or an end has another length, the number is 3 and nothing at all has changed.
 uint32_t fifo_run_from(uint32_t part, const uint8_t *trace, size_t trace_length, uint8_t *state, size_t state_length,

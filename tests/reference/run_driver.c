@@ -7,7 +7,7 @@
 #include "handed_c.h"
 #include "talk.h"
 
-enum { STATE = 48, MOST_RECORDS = 70100, MOST_WORDS = 16384 + 1, ENDED = 2, FILLED = 0xA5 };
+enum { STATE = 52, MOST_RECORDS = 70100, MOST_WORDS = 16384 + 1, ENDED = 2, FILLED = 0xA5 };
 
 struct run {
     uint32_t lenient, against_front, part, seed;

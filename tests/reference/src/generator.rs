@@ -1,5 +1,7 @@
 //! Makes the records of a trace one by one, with an eye on the model that takes them.
 
+use std::collections::VecDeque;
+
 use crate::model::{Mode, Model};
 use crate::pins::Pins;
 use crate::random::Random;
@@ -25,14 +27,16 @@ pub struct Generator {
     pace: Pace,
     missed: u64,
     left: u64,
-    /// A sample meant for 12, which comes again with D settled.
-    again: Option<Pins>,
+    /// Samples that are to come next, one after another.
+    coming: VecDeque<Pins>,
 }
 
 impl Generator {
     pub fn new(plan: Plan, random: Random) -> Generator {
         let (scene, left) = (plan.first, if plan.far { 600 } else { 20 });
-        Generator { random, plan, scene, pace: Pace::Together, missed: 4, left, again: None }
+        // No word is written under RT LOW where both clocks rise together.
+        let pace = if matches!(scene, Scene::Falls) { Pace::Loose } else { Pace::Together };
+        Generator { random, plan, scene, pace, missed: 4, left, coming: VecDeque::new() }
     }
 
     pub fn next(&mut self, model: &Model) -> u32 {
@@ -63,13 +67,14 @@ impl Generator {
     fn master_reset(&mut self, model: &Model) -> Pins {
         let fwft_si = self.plan.mode == Mode::FallThrough;
         let (ld, wclk, rclk) = (self.random.flip(), self.random.flip(), self.random.flip());
-        let unsettled = self.random.flip();
-        Pins { mrs: false, prs: self.random.flip(), fwft_si, ld, wclk, rclk, unsettled, ..calm(model) }
+        let (unsettled, rt) = (self.random.flip(), self.random.flip());
+        let (wen, ren) = (!self.random.one_in(4), !self.random.one_in(4));
+        Pins { mrs: false, prs: self.random.flip(), fwft_si, ld, wclk, rclk, unsettled, rt, wen, ren, ..calm(model) }
     }
 
     fn proposal(&mut self, model: &Model) -> Pins {
-        if let Some(pins) = self.again.take() {
-            return Pins { unsettled: false, ..pins };
+        if let Some(pins) = self.coming.pop_front() {
+            return pins;
         }
         let arrived = self.scene.arrived(model);
         if arrived {
@@ -81,7 +86,25 @@ impl Generator {
         if arrived && self.plan.spoiled > 0 && self.random.one_in(self.plan.spoiled) {
             self.spoil(&mut pins, model);
         }
-        pins
+        self.led_up_to(pins, model)
+    }
+
+    /// The first of the samples by which it comes to this one. Where RT falls in it, both enables are mostly HIGH in a sample
+    /// before, and now and then RT falls in one of its own. A scene about falls sees to that itself.
+    fn led_up_to(&mut self, pins: Pins, model: &Model) -> Pins {
+        let falls = !pins.rt && !model.fall.lasts();
+        if !falls || matches!(self.scene, Scene::Falls) || self.random.one_in(6) {
+            return pins;
+        }
+        let still = Pins { oe: self.random.one_in(8), fwft_si: self.random.flip(), ..calm(model) };
+        if !model.fall.clean(still) {
+            self.coming.push_back(still);
+        }
+        if self.random.one_in(3) {
+            self.coming.push_back(Pins { rt: false, ..still });
+        }
+        self.coming.push_back(pins);
+        self.coming.pop_front().expect("the last of them at least")
     }
 
     /// Whether D may be unsettled and no word is lost by it: none is asked for, or the part is full and refusals are wanted.
@@ -90,10 +113,34 @@ impl Generator {
     }
 
     fn spoil(&mut self, pins: &mut Pins, model: &Model) {
-        let often = if model.retransmit_seen() { 9 } else { 10 };
-        let number = self.random.pick(&[6, 7, 8, 9, 10, 12, often]);
+        let often = match self.scene {
+            Scene::Falls => 7,
+            _ if model.retransmit_seen() => 9,
+            _ => 10,
+        };
+        let number = self.random.pick(&[6, 7, 8, 9, 10, 12, often, often]);
         spoil(number, pins, model, &mut self.random);
-        self.again = (number == 12 && self.random.flip()).then_some(*pins);
+        if number == 12 && self.random.flip() {
+            self.coming.push_back(Pins { unsettled: false, ..*pins });
+        }
+        if matches!(self.scene, Scene::Falls) {
+            // Often with nothing LOW that a fall is judged by.
+            pins.ren |= number == 7;
+            self.retransmit_after(*pins, model);
+        }
+    }
+
+    /// A rise with RT LOW shows whether anything of a refused sample was remembered: RT and both enables HIGH as if before a
+    /// fall, or a fall as if it were the last one.
+    fn retransmit_after(&mut self, refused: Pins, model: &Model) {
+        let fall = Pins { rt: false, rclk: false, ..calm(model) };
+        let before = refused.rt && refused.wen && refused.ren;
+        let low = if before { 0 } else { self.random.below(4) };
+        let (wen, ren) = (low != 1, low != 2);
+        if model.rclk || !wen || !ren {
+            self.coming.push_back(Pins { wen, ren, ..fall });
+        }
+        self.coming.push_back(Pins { rclk: true, ..fall });
     }
 
     /// A sample in which the clocks move and nothing is asked for. On the way to a place the clocks take the short way.
@@ -136,12 +183,13 @@ impl Generator {
         if self.random.one_in(reset_odds) {
             return Scene::Resets;
         }
-        match self.random.below(8) {
+        match self.random.below(10) {
             0..=2 => Scene::Hover { held: self.random.pick(&places_held(model, self.plan.far)) },
             3 => Scene::Verge { written: self.random.pick(&places_written(model, self.plan.far)) },
-            4 => Scene::Retransmits,
-            5 => self.next_loading(model),
-            6 => Scene::OffsetReadings,
+            4 | 5 => Scene::Retransmits,
+            6 => self.next_loading(model),
+            7 => Scene::OffsetReadings,
+            8 => Scene::Falls,
             _ => Scene::Noise,
         }
     }

@@ -14,6 +14,7 @@ use crate::corners::{Corner, Corners};
 use crate::library::{Aftermath, Call, Library, Numbers, Reply};
 use crate::model::Outcome;
 use crate::part::{Part, PARTS};
+use crate::pins::Pins;
 use crate::random::Random;
 use crate::trace::refill;
 
@@ -80,10 +81,11 @@ impl<'a> Trial<'a> {
     fn expected(&mut self, handed: &mut Handed, record: u32) -> Expected {
         let memory = &mut self.memories[usize::from(handed.part != PARTS[0])];
         let place = handed.part.place(u64::from(handed.fields.write.count));
-        let word = memory[place];
+        let (word, before) = (memory[place], handed.fields);
         let outcome = handed.sample(record, memory);
         let written = (memory[place] != word).then_some((place, memory[place]));
         note_corners(handed, outcome, &mut self.corners);
+        note_falls(&before, Pins::of(record), outcome, &mut self.corners);
         (Reply::told(outcome), Aftermath { state: handed.fields.bytes(), written })
     }
 }
@@ -98,4 +100,19 @@ fn note_corners(after: &Handed, outcome: Outcome, corners: &mut Corners) {
         (Corner::NeverRound, read.count > write.count),
     ];
     places.into_iter().filter(|&(_, there)| taken && there).for_each(|(corner, _)| corners.note_input(corner));
+}
+
+/// What comes of RT LOW in a state, and of what it remembers of a fall that is over.
+fn note_falls(before: &Fields, pins: Pins, outcome: Outcome, corners: &mut Corners) {
+    let (started, enables) = (before.started, before.enables);
+    let rise = !pins.in_reset() && !before.read.clock && pins.rclk && !pins.rt && pins.ren && pins.wen;
+    let (taken, refused) = (matches!(outcome, Outcome::Taken(_)), outcome == Outcome::Refused(8));
+    let places = [
+        (Corner::HandedClean, rise && taken && !enables.rt),
+        (Corner::HandedUnclean, rise && refused && !enables.rt),
+        (Corner::HandedHighClean, rise && taken && enables.rt && !enables.clean),
+        (Corner::HandedHighUnclean, rise && refused && enables.rt && enables.clean),
+        (Corner::HandedUnstarted, taken && !started && !pins.rt && !enables.rt && !enables.clean),
+    ];
+    places.into_iter().filter(|&(_, there)| there).for_each(|(corner, _)| corners.note_input(corner));
 }

@@ -2,6 +2,7 @@
 
 mod clocks;
 
+use crate::fall::Fall;
 use crate::history::{second_stage, History};
 use crate::offsets::Offsets;
 use crate::part::Part;
@@ -34,6 +35,7 @@ pub struct Model {
     pub untaken: bool,
     pub wclk: bool,
     pub rclk: bool,
+    pub fall: Fall,
     started: bool,
     accepted_samples: u64,
 }
@@ -51,6 +53,7 @@ impl Model {
             untaken: false,
             wclk: true,
             rclk: true,
+            fall: Fall::power_up(),
             started: false,
             accepted_samples: 0,
         }
@@ -73,6 +76,7 @@ impl Model {
             self.run_clocks(pins, memory);
         }
         (self.wclk, self.rclk) = (pins.wclk, pins.rclk);
+        self.fall.see(pins);
         self.answer(pins)
     }
 

@@ -73,7 +73,7 @@ fn full(part: Part, mode: Mode, spoiled: u64) -> Job {
 }
 
 fn short(part: Part, mode: Mode, spoiled: u64, random: &mut Random) -> Job {
-    let first = Scene::Verge { written: 1 };
+    let first = random.pick(&[Scene::Verge { written: 1 }, Scene::Falls]);
     let records = 1 + random.below(MOST_IN_SHORT) as usize;
     Job { part, plan: Plan { mode, spoiled, far: false, first }, records }
 }

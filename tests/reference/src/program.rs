@@ -81,6 +81,7 @@ pub fn expected<T: Traced>(input: &[u8], lenient: bool, corners: &mut Corners) -
     let samples = input[2..].chunks_exact(T::BYTES);
     let left_over = samples.remainder().len();
     let mut traced = T::power_up(part);
+    corners.begin_trace();
     let (mut lines, mut taken, mut end) = (String::new(), 0, 0);
     for (index, sample) in samples.clone().enumerate() {
         match traced.line(sample, corners) {

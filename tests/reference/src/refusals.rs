@@ -11,6 +11,8 @@ pub trait Judged {
     /// Of WCLK and of RCLK.
     fn rises(&self, pins: Pins) -> (bool, bool);
     fn method(&self) -> Method;
+    /// Whether RT LOW in the sample goes back to a clean fall.
+    fn fell_clean(&self, pins: Pins) -> bool;
     fn may_retransmit(&self) -> bool;
     fn retransmit_seen(&self) -> bool;
 }
@@ -26,6 +28,10 @@ impl Judged for Model {
 
     fn method(&self) -> Method {
         self.offsets.method
+    }
+
+    fn fell_clean(&self, pins: Pins) -> bool {
+        self.fall.clean(pins)
     }
 
     fn may_retransmit(&self) -> bool {
@@ -47,7 +53,7 @@ pub fn conditions(judged: &impl Judged, pins: Pins) -> impl Iterator<Item = u32>
         (5, !judged.started() && pins.mrs),
         (6, (write_rise || read_rise) && !pins.ld && pins.enables_low() > 1),
         (7, write_rise && !pins.ld && wrong_method(judged.method(), pins)),
-        (8, retransmit && !(pins.ren && pins.wen)),
+        (8, retransmit && !(pins.ren && pins.wen && judged.fell_clean(pins))),
         (9, retransmit && !judged.may_retransmit()),
         (10, write_rise && pins.ld && !pins.wen && !judged.retransmit_seen()),
         (12, pins.unsettled && data_asked(judged, pins)),

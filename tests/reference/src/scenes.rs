@@ -1,5 +1,7 @@
 //! The kinds of traffic that a trace is put together from.
 
+use std::cmp::Ordering;
+
 use crate::model::{Mode, Model};
 use crate::offsets::Method;
 use crate::pins::{Pins, WORD};
@@ -34,6 +36,8 @@ pub enum Scene {
         written: u64,
     },
     Retransmits,
+    /// Lower RT in samples of every kind, cleanly or not, and keep it LOW for a while.
+    Falls,
     /// Load these two values, with breaks: in parallel in any order, serially as n and m.
     Loading {
         n: u64,
@@ -107,6 +111,7 @@ impl Scene {
             Scene::Verge { .. } if !self.arrived(model) => (pins.wen, pins.ren) = (!model.retransmit_seen(), false),
             Scene::Verge { written } => verge(written, pins, model, random),
             Scene::Retransmits => retransmits(pins, model, random),
+            Scene::Falls => falls(pins, model, random),
             Scene::Loading { n, m } => loading(n, m, pins, model, random),
             Scene::OffsetReadings => offset_readings(pins, model, random),
             Scene::Resets => resets(pins, model, random),
@@ -125,10 +130,20 @@ fn hover(held: u64, pins: &mut Pins, model: &Model, random: &mut Random) {
 
 /// At the number and beyond it the words come slowly, so that retransmits are tried at each.
 fn verge(written: u64, pins: &mut Pins, model: &Model, random: &mut Random) {
-    let write_odds = if model.written() < written { 3 } else { 24 };
-    pins.rt = !random.one_in(6);
+    let write_odds = match model.written().cmp(&written) {
+        Ordering::Less => 3,
+        Ordering::Equal => 12,
+        Ordering::Greater => 40,
+    };
+    pins.rt = if model.fall.lasts() { rt_rises(4, model, random) } else { !random.one_in(6) };
     pins.wen = !pins.rt || !model.retransmit_seen() || !random.one_in(write_odds);
     pins.ren = !pins.rt || random.flip();
+}
+
+/// Whether RT that is LOW goes HIGH: soon, once it has brought a retransmit, so that its setup has time.
+fn rt_rises(odds: u64, model: &Model, random: &mut Random) -> bool {
+    let brought = model.rises_since_retransmit() == Some(0);
+    random.one_in(if brought { 2 } else { odds })
 }
 
 fn retransmits(pins: &mut Pins, model: &Model, random: &mut Random) {
@@ -137,6 +152,30 @@ fn retransmits(pins: &mut Pins, model: &Model, random: &mut Random) {
     pins.wen = !pins.rt || random.one_in(3);
     pins.ren = !pins.rt || random.one_in(3);
     pins.ld = !random.one_in(12);
+}
+
+/// A word is written under RT LOW where there is none to retransmit, as after a reset. Where many have been written, none is
+/// lost to a reset.
+fn falls(pins: &mut Pins, model: &Model, random: &mut Random) {
+    let lasts = model.fall.lasts();
+    if model.written() < 40 && random.one_in(10) {
+        resets(pins, model, random);
+    }
+    pins.rt = match lasts {
+        _ if pins.in_reset() => random.flip(),
+        true => rt_rises(8, model, random),
+        false => !random.one_in(3),
+    };
+    let low_odds = match pins.rt {
+        true => random.pick(&[2, 1_000]),
+        false if model.read_clock_rises(*pins) => 24,
+        false if lasts => 2,
+        false => 6,
+    };
+    (pins.wen, pins.ren) = (!random.one_in(low_odds), !random.one_in(low_odds));
+    if lasts && model.written() == 0 && !pins.in_reset() && !random.one_in(4) {
+        (pins.rt, pins.wen, pins.wclk, pins.rclk) = (false, false, !model.wclk, false);
+    }
 }
 
 fn loading(n: u64, m: u64, pins: &mut Pins, model: &Model, random: &mut Random) {

@@ -27,8 +27,9 @@ pub fn spoil(number: u32, pins: &mut Pins, model: &Model, random: &mut Random) {
             pins.rt = !random.one_in(4);
         }
         8 => {
-            let kept = random.below(3);
-            (pins.rt, pins.wen, pins.ren) = (false, kept == 0, kept == 1);
+            // With both HIGH an unclean fall is left to be the reason, where there is one.
+            let kept = random.below(4);
+            (pins.rt, pins.wen, pins.ren) = (false, kept == 0 || kept == 3, kept == 1 || kept == 3);
         }
         9 => (pins.rt, pins.wen, pins.ren) = (false, true, true),
         10 => (pins.ld, pins.wen) = (true, false),

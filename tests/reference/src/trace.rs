@@ -81,6 +81,7 @@ pub fn generated(job: Job, refills: bool, seed: u64, corners: &mut Corners) -> (
     let mut generator = Generator::new(job.plan, Random::new(random.draw()));
     let mut model = Model::power_up(job.part);
     let mut memory = first_memory(job.part);
+    corners.begin_trace();
     let mut steps = Vec::with_capacity(job.records + 2);
     let mut outcomes = Vec::with_capacity(job.records);
     for _ in 0..job.records {

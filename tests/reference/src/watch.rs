@@ -1,10 +1,13 @@
 //! Which corners a sample comes through, told from the model before and after it.
 
+mod falls;
 mod offsets;
 mod refused;
 mod resets;
 mod retransmits;
 mod unsettled;
+
+pub use falls::Falls;
 
 use crate::corners::{Corner, Corners};
 use crate::history::{looks_past, taken_across, History};
@@ -32,6 +35,7 @@ impl Corners {
         let rises = before.write_clock_rises(pins) || before.read_clock_rises(pins);
         if let Outcome::Refused(number) = outcome {
             self.refused(&before, pins, number);
+            self.refused_by_fall(&before, pins, number);
             self.refused_rise = rises;
             self.refused_unsettled = (number == 12).then_some(pins);
             return outcome;
@@ -39,6 +43,7 @@ impl Corners {
         self.note(model, Corner::RefusedThenTaken, self.refused_rise && rises && !pins.in_reset());
         self.refused_rise = false;
         self.unsettled(&before, pins, model);
+        self.taken_by_fall(&before, pins, model);
         if pins.in_reset() {
             self.reset(&before, pins, model);
         } else {

@@ -3,10 +3,13 @@
 use reference::corners::Corners;
 use reference::pair::onlooker::{Watched, Words};
 use reference::pair::traffic::{generated, jobs};
+use reference::pair::Pair;
 use reference::part::PARTS;
+use reference::pins::Pins;
 use reference::plans::Amount;
 use reference::program::expected;
 use reference::random::Random;
+use reference::refusals::refusal;
 
 /// Resets with n = m = 127 and both clocks LOW; then samples with nothing asked, or a read, a write or a retransmit.
 const STANDARD: u32 = 0x4D980000;
@@ -17,6 +20,8 @@ const READ: u32 = 0xDB980000;
 const WRITE_CLOCK: u32 = 0xEF980000;
 const WRITE: u32 = 0xE7980041;
 const RETRANSMIT: u32 = 0xDF180000;
+const FALL: u32 = 0xCF180000;
+const FALL_REN_LOW: u32 = 0xCB180000;
 
 /// Both marks met, unless turned over.
 const READ_SKEW: u32 = 1 << 19;
@@ -139,6 +144,42 @@ fn one_half_refuses() {
         let (mut refused, without): (Vec<String>, Vec<String>) = (answers(&refused), answers(&without));
         assert_eq!(Vec::from_iter(refused.drain(before.len()..before.len() + writes.len())), numbers);
         assert_eq!(refused, without);
+    }
+}
+
+/// RT falls in a write, or with REN LOW, or cleanly.
+#[test]
+fn falls_of_both_halves() {
+    let refused = |fall: &[u32]| {
+        let samples: Vec<u32> = [&[STANDARD], fall, &[RETRANSMIT]].concat();
+        let samples: Vec<[u32; 2]> = samples.into_iter().map(|record| [record; 2]).collect();
+        lenient(&samples).lines().rev().nth(1).is_some_and(|line| line.ends_with(" refused 8"))
+    };
+    assert!(refused(&[WRITE]));
+    assert!(refused(&[WRITE, STILL, FALL_REN_LOW]));
+    assert!(refused(&[WRITE, STILL, FALL_REN_LOW, FALL]));
+    assert!(!refused(&[WRITE, STILL]));
+    assert!(!refused(&[WRITE, STILL, FALL, FALL_REN_LOW]));
+    assert!(!refused(&[WRITE, STILL, FALL_REN_LOW, STILL]));
+}
+
+/// Halves that remember different falls, which only states handed in can do.
+#[test]
+fn falls_of_one_half() {
+    let (left, right) = ([Some(8), None], [None, Some(8)]);
+    for (falls, numbers) in [([FALL; 2], [None; 2]), ([FALL_REN_LOW, FALL], left), ([FALL, FALL_REN_LOW], right)] {
+        let mut pair = Pair::power_up(PARTS[0]);
+        for record in [STANDARD, WRITE, STILL] {
+            pair.sample([record; 2]).expect("it is taken");
+        }
+        for (half, fall) in pair.halves.iter_mut().zip(falls) {
+            half.take(Pins::of(fall), &mut [0; 8_192]);
+        }
+        assert_eq!(pair.halves.each_ref().map(|half| refusal(half, Pins::of(RETRANSMIT))), numbers);
+        let either = numbers.into_iter().flatten().next();
+        assert_eq!(pair.sample([RETRANSMIT; 2]).err(), either);
+        pair.sample([STILL; 2]).expect("it is taken");
+        pair.sample([RETRANSMIT; 2]).expect("a clean fall of both");
     }
 }
 

@@ -1,9 +1,10 @@
-//! The bytes of the C call's state: a byte for each level and enum, then numbers with their byte of least weight first.
+//! The bytes of the C call's state: a byte for each level and enum, then numbers with their byte of least weight first, then
+//! a byte for each of what retransmits are judged by.
 
 use crate::model::Mode;
 use crate::offsets::Method;
 
-pub const STATE_BYTES: usize = 48;
+pub const STATE_BYTES: usize = 52;
 
 /// What one side keeps of itself and of the other.
 #[derive(Clone, Copy, PartialEq, Eq, Debug)]
@@ -17,6 +18,15 @@ pub struct Side {
     pub before: Option<u16>,
     /// The level of PAF or PAE.
     pub almost: bool,
+}
+
+/// The levels of the last accepted sample that a fall of RT is judged by, and whether the last fall was clean.
+#[derive(Clone, Copy, PartialEq, Eq, Debug)]
+pub struct Enables {
+    pub rt: bool,
+    pub ren: bool,
+    pub wen: bool,
+    pub clean: bool,
 }
 
 /// Everything that a state stores.
@@ -42,11 +52,13 @@ pub struct Fields {
     pub serial: u32,
     pub serial_bits: u8,
     pub shown: Option<u16>,
+    pub enables: Enables,
 }
 
 impl Fields {
     pub fn bytes(&self) -> [u8; STATE_BYTES] {
         let (write, read) = (&self.write, &self.read);
+        let Enables { rt, ren, wen, clean } = self.enables;
         let levels = [
             self.started,
             write.clock,
@@ -73,6 +85,7 @@ impl Fields {
             self.serial.to_le_bytes().to_vec(),
             halves(&[self.shown.unwrap_or(0), 0]),
             self.output.to_le_bytes().to_vec(),
+            [rt, ren, wen, clean].map(u8::from).to_vec(),
         ];
         all.concat().try_into().expect("the bytes of a state")
     }
@@ -109,6 +122,7 @@ impl Fields {
             serial: word(36),
             serial_bits: bytes[15],
             shown: level(11).then(|| half(40)),
+            enables: Enables { rt: level(48), ren: level(49), wen: level(50), clean: level(51) },
         };
         (fields.bytes() == *bytes).then_some(fields)
     }

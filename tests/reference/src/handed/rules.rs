@@ -1,6 +1,6 @@
 //! The scope paper on the fields of one state: numbers of 16 bits, and every difference taken round them.
 
-use super::fields::{Fields, Side};
+use super::fields::{Enables, Fields, Side};
 use crate::model::{Mode, Outcome};
 use crate::offsets::Method;
 use crate::part::Part;
@@ -39,6 +39,17 @@ impl Side {
     }
 }
 
+impl Enables {
+    /// Whether the last fall was clean, once these pins are accepted: one in them, or the one that is remembered.
+    fn clean_with(&self, pins: Pins) -> bool {
+        if self.rt && !pins.rt {
+            self.ren && self.wen && pins.ren && pins.wen
+        } else {
+            self.clean
+        }
+    }
+}
+
 impl Judged for Handed {
     fn started(&self) -> bool {
         self.fields.started
@@ -50,6 +61,10 @@ impl Judged for Handed {
 
     fn method(&self) -> Method {
         self.fields.method
+    }
+
+    fn fell_clean(&self, pins: Pins) -> bool {
+        self.fields.enables.clean_with(pins)
     }
 
     fn may_retransmit(&self) -> bool {
@@ -99,6 +114,8 @@ impl Handed {
             self.run_clocks(pins, memory);
         }
         (self.fields.write.clock, self.fields.read.clock) = (pins.wclk, pins.rclk);
+        let clean = self.fields.enables.clean_with(pins);
+        self.fields.enables = Enables { rt: pins.rt, ren: pins.ren, wen: pins.wen, clean };
         Outcome::Taken(self.answer(pins))
     }
 

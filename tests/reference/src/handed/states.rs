@@ -1,6 +1,6 @@
 //! Random states: such as pass 3 and lie in the corners, such as fail by one clause of it, and records to try on them.
 
-use super::fields::{Fields, Side};
+use super::fields::{Enables, Fields, Side};
 use super::rules::Handed;
 use crate::model::Mode;
 use crate::offsets::Method;
@@ -68,6 +68,11 @@ fn sides(part: Part, n: u16, m: u16, random: &mut Random) -> (Side, Side) {
     (Side { before: of_read, ..write }, Side { before: of_written, ..read })
 }
 
+/// Any of them is a state's, with RT HIGH after an unclean fall too.
+fn enables(random: &mut Random) -> Enables {
+    Enables { rt: random.flip(), ren: !random.one_in(4), wen: !random.one_in(4), clean: !random.one_in(3) }
+}
+
 pub fn passing(part: Part, random: &mut Random) -> Handed {
     let [n, m] = [offset(part, &[127, 1_023], random), offset(part, &[127, 1_023], random)];
     let (write, read) = sides(part, n, m, random);
@@ -92,6 +97,7 @@ pub fn passing(part: Part, random: &mut Random) -> Handed {
         serial: up_to((1 << serial_bits) - 1, &[], random) as u32,
         serial_bits,
         shown: random.one_in(3).then_some(shown),
+        enables: enables(random),
     };
     Handed { part, fields }
 }
@@ -127,16 +133,17 @@ pub fn failing(part: Part, clause: u64, random: &mut Random) -> Handed {
 pub fn record(fields: &Fields, random: &mut Random) -> u32 {
     let mut pins = Pins::of(random.bits());
     pins.unsettled = random.one_in(4);
-    (pins.mrs, pins.prs) = (!random.one_in(32), !random.one_in(32));
+    let reset_odds = if fields.started { 32 } else { 2 };
+    (pins.mrs, pins.prs) = (!random.one_in(reset_odds), !random.one_in(32));
     (pins.wclk, pins.rclk) = (!random.one_in(4), !random.one_in(4));
-    let wish = random.below(8);
+    let wish = random.below(9);
     if wish > 0 {
         (pins.wen, pins.ren, pins.sen, pins.rt, pins.ld) = (true, true, true, true, wish < 5);
     }
     match wish {
         1 | 2 => (pins.wen, pins.ren) = (random.one_in(8), random.flip()),
         3 => (pins.wen, pins.ren) = (random.flip(), random.one_in(8)),
-        4 => (pins.rt, pins.ld) = (false, random.flip()),
+        4 | 8 => (pins.rt, pins.ld) = (false, random.flip()),
         5 if fields.method == Method::Parallel => pins.wen = false,
         5 => pins.sen = false,
         6 => pins.ren = false,

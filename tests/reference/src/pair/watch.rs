@@ -72,7 +72,10 @@ impl Corners {
             5 => note(Corner::PairFive, true),
             6 => note(Corner::PairSix, true),
             7 => note(Corner::PairSeven, true),
-            8 => note(Corner::PairEight, true),
+            8 => {
+                note(Corner::PairEight, true);
+                note(Corner::PairEightFall, pins[0].ren && pins[0].wen);
+            }
             9 => note(Corner::PairNine, true),
             _ => {
                 let own = [0, 1].map(|half| refusal(&pair.halves[half], pins[half]));

@@ -4,7 +4,7 @@ use super::Run;
 use crate::corners::Corners;
 use crate::generator::Plan;
 use crate::handed::states::{self, failing, passing, CLAUSES};
-use crate::handed::Handed;
+use crate::handed::{Handed, STATE_BYTES};
 use crate::hostile::wrong_part;
 use crate::model::Mode;
 use crate::part::{Part, PARTS};
@@ -47,6 +47,8 @@ fn from_power_up(part: Part, lenient: bool, spoiled: u64, records: usize, random
     let mut handed = passing(part, random);
     handed.fields.started = false;
     (handed.fields.write.clock, handed.fields.read.clock) = (true, true);
+    let enables = &mut handed.fields.enables;
+    (enables.rt, enables.ren, enables.wen) = (true, true, true);
     let mode = random.pick(&[Mode::Standard, Mode::FallThrough]);
     let plan = Plan { mode, spoiled, far: records > 1_000, first: Scene::Verge { written: records as u64 / 3 } };
     let (trace, told) = generated(Job { part, plan, records }, false, random.draw(), &mut Corners::default());
@@ -80,9 +82,13 @@ const OTHER: [Change; 3] = [
     },
 ];
 
-/// Bytes that spell no state.
+/// Bytes that spell no state: one of the first, which are levels and enums, or one of the last, which are levels.
 fn misspell(run: &mut Run, random: &mut Random) {
-    run.state[random.below(15) as usize] = 3 + random.below(250) as u8;
+    if random.flip() {
+        run.state[random.below(15) as usize] = 3 + random.below(250) as u8;
+    } else {
+        run.state[STATE_BYTES - 1 - random.below(4) as usize] = 2 + random.below(250) as u8;
+    }
 }
 
 fn changed(part: Part, lenient: bool, changes: &[Change], random: &mut Random) -> Run {

@@ -75,5 +75,9 @@ impl Corners {
         for (first, second, corner) in pairs {
             self.note(model, corner, held[0] == first && held[1..].contains(&second));
         }
+        if pins.ren && pins.wen {
+            self.note(model, Corner::ReasonsMethodFall, held[0] == 7 && held[1..].contains(&8));
+            self.note(model, Corner::ReasonsFallWords, held[0] == 8 && held[1..].contains(&9));
+        }
     }
 }
