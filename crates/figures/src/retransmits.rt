@@ -34,7 +34,8 @@ const WAITING: [u64; 10] = [
     rows::READ + 1 + rows::SHOWN,
 ];
 
-// Enables before retransmit: RT falls right after a write, and right after a read; each time again with one sample between.
+// Enables before retransmit: RT falls right after a write, with a second rise at the same LOW, and right after a read; each time again
+// with one sample between.
 const AFTER_ENABLE: [u64; 12] = [
     rows::RESET,
     rows::WRITE + 3,
@@ -64,9 +65,10 @@ const AT_FALL: [u64; 10] = [
     rows::RETRANSMIT + rows::SHOWN,
 ];
 
-// A fall in a reset is one like any other, and no reset forgets one.
-const IN_RESET: [u64; 14] = [
+// A fall in a reset is one like any other, and no reset forgets one. After each reset comes a sample that would be a clean fall if it had.
+const IN_RESET: [u64; 20] = [
     rows::RESET_RT_AND_WEN_LOW,
+    rows::RT_LOW,
     rows::WRITE_RT_LOW + 3,
     rows::RETRANSMIT + rows::SHOWN,
     rows::ENABLES_HIGH,
@@ -78,6 +80,11 @@ const IN_RESET: [u64; 14] = [
     rows::WRITE + 1,
     rows::RT_LOW,
     rows::PARTIAL_RESET_RT_LOW,
+    rows::RT_LOW,
+    rows::WRITE_RT_LOW + 3,
+    rows::RETRANSMIT + rows::SHOWN,
+    rows::RESET_RT_LOW,
+    rows::RT_LOW,
     rows::WRITE_RT_LOW + 3,
     rows::RETRANSMIT + rows::SHOWN,
 ];
@@ -118,7 +125,7 @@ pub(crate) fn print_falls(part: u32, fwft: bool, memory: &mut [u32]) {
         part,
         fwft,
         &IN_RESET,
-        b"fall-in-master-reset\nfall-in-partial-reset\nfall-before-partial-reset\n",
+        b"fall-in-master-reset\nfall-in-partial-reset\nfall-before-partial-reset\nfall-before-master-reset\n",
         memory,
     );
 }

@@ -102,8 +102,7 @@ pub(crate) const TURN: u64 = WRITE - REN + RCLK;
 
 pub(crate) const RETRANSMIT: u64 = RUN_RCLK - RT + 1;
 
-// One sample with both enables and RT HIGH, as it must come before RT falls (paper 02, order 3); RT LOW in one with both HIGH, with
-// REN LOW, and in a Partial Reset; in a Master Reset with WEN LOW; and writes while it is LOW.
+// One sample with both enables and RT HIGH, as it must come before RT falls (paper 02, order 3).
 pub(crate) const ENABLES_HIGH: u64 = IDLE + RAW + 1;
 
 pub(crate) const RT_LOW: u64 = ENABLES_HIGH - RT;
@@ -112,7 +111,9 @@ pub(crate) const RT_AND_REN_LOW: u64 = RT_LOW - REN;
 
 pub(crate) const PARTIAL_RESET_RT_LOW: u64 = RT_LOW - PRS;
 
-pub(crate) const RESET_RT_AND_WEN_LOW: u64 = RESET - RT - WEN;
+pub(crate) const RESET_RT_LOW: u64 = RESET - RT;
+
+pub(crate) const RESET_RT_AND_WEN_LOW: u64 = RESET_RT_LOW - WEN;
 
 pub(crate) const WRITE_RT_LOW: u64 = WRITE - RT;
 

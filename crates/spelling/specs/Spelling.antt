@@ -129,9 +129,10 @@ blankElsewhere bytes =
 unfoldable pub spells : List ℕ → Bool
 spells bytes = spelledDigits bytes && blankElsewhere bytes
 
--- what is remembered of the pins alone: the two clocks' levels, and those of RT and the enables
+-- the two clocks' levels alone
 unfoldable pub putClocks : Bool → Bool → List ℕ → List ℕ
 putClocks wclk rclk bytes = set (set bytes 1 (digitOf wclk)) 2 (digitOf rclk)
 
+-- all that is remembered of the pins: the clocks, RT, REN and WEN, and whether RT's last fall was clean
 unfoldable pub putRemembered : Bool → Bool → Enables → List ℕ → List ℕ
 putRemembered wclk rclk enables bytes = putFours 48 (enablesOf enables) (putClocks wclk rclk bytes)
