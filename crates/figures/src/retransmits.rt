@@ -65,7 +65,8 @@ const AT_FALL: [u64; 10] = [
     rows::RETRANSMIT + rows::SHOWN,
 ];
 
-// A fall in a reset is one like any other, and no reset forgets one. After each reset comes a sample that would be a clean fall if it had.
+// A fall in a reset is one like any other, and no reset forgets one. Where the fall was unclean, a sample comes after the reset that would be
+// a clean fall if it were forgotten.
 const IN_RESET: [u64; 20] = [
     rows::RESET_RT_AND_WEN_LOW,
     rows::RT_LOW,
