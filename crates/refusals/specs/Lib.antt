@@ -1,4 +1,5 @@
 pub mod Refuse
+pub mod Free
 pub mod FreeLaws
 pub mod NineLaws
 pub mod Rows

@@ -1,5 +1,6 @@
 // What is turned away: 5 to 10, with 8 for an unclean fall of RT too, and 12 for data that had not settled.
-ghost use Rattle.refusals.specs.Refuse.{Refuses, asksUnselected, fromEight, fromSix, fromTen, refusesEight, refusesFive, refusesNine, refusesSeven, refusesSix, refusesTen, refusesTwelve, retransmitMost, severalLow};
+ghost use Rattle.refusals.specs.Free.{free};
+ghost use Rattle.refusals.specs.Refuse.{Refuses, asksUnselected, fromSix, refusesEight, refusesFive, refusesNine, refusesSeven, refusesSix, refusesTen, refusesTwelve, retransmitMost, severalLow};
 ghost use Rattle.counts.specs.Part.{depthOf};
 ghost use mathlib.Core.Bool.{cond};
 ghost use mathlib.Core.Path.{_≡_};
@@ -12,56 +13,46 @@ use sides::read::Mode;
 pub fn refusal(part: Part, p: Pins, s: State) -> u8
     ensures { λ r. ⌜ Refuses part p s r ⌝ }
 {
+    if is_free(p, s) {
+        0
+    } else {
+        first_refusal(part, p, s)
+    }
+}
+
+// Most samples are free: one look for them, in place of one for each row.
+fn is_free(p: Pins, s: State) -> bool
+    ensures { λ r. ⌜ r ≡ free p s ⌝ }
+{
+    let write = s.write;
+    let view = write.view;
+    s.started & p.ld & p.rt & !p.unsettled & views::retransmit::is_seen(view)
+}
+
+fn first_refusal(part: Part, p: Pins, s: State) -> u8
+    ensures { λ r. ⌜ Refuses part p s r ⌝ }
+{
     if refuses_five(p, s) {
         5
-    } else if p.mrs & p.prs & chip::quiet::clock_rises(p, s) {
-        refuse_rise(part, p, s)
+    } else if p.mrs & p.prs {
+        refuse_from_six(part, p, s)
     } else {
         0
     }
 }
 
-// 6 and 7 are for LD LOW, 8 and 9 for a retransmit, 10 and 12 for WEN LOW: each pair is looked at only there.
-fn refuse_rise(part: Part, p: Pins, s: State) -> u8
+fn refuse_from_six(part: Part, p: Pins, s: State) -> u8
     ensures { λ r. ⌜ r ≡ fromSix part p s ⌝ }
 {
-    let from_eight = refuse_from_eight(part, p, s);
-    if p.ld {
-        from_eight
-    } else {
-        pick(
-            refuses_six(p, s),
-            6,
-            pick(refuses_seven(p, s), 7, from_eight),
-        )
-    }
-}
-
-fn refuse_from_eight(part: Part, p: Pins, s: State) -> u8
-    ensures { λ r. ⌜ r ≡ fromEight part p s ⌝ }
-{
-    let from_ten = refuse_from_ten(p, s);
-    if sides::read::is_retransmit(p, s.read) {
-        pick(
-            refuses_eight(p, s),
-            8,
-            pick(refuses_nine(part, p, s), 9, from_ten),
-        )
-    } else {
-        from_ten
-    }
-}
-
-fn refuse_from_ten(p: Pins, s: State) -> u8
-    ensures { λ r. ⌜ r ≡ fromTen p s ⌝ }
-{
-    if p.wen {
-        0
-    } else {
-        let ten = refuses_ten(p, s);
-        let twelve = refuses_twelve(p, s);
-        pick(ten, 10, pick(twelve, 12, 0))
-    }
+    let six = refuses_six(p, s);
+    let seven = refuses_seven(p, s);
+    let eight = refuses_eight(p, s);
+    let nine = refuses_nine(part, p, s);
+    let ten = refuses_ten(p, s);
+    let twelve = refuses_twelve(p, s);
+    let from_ten = pick(ten, 10, pick(twelve, 12, 0));
+    let from_eight = pick(eight, 8, pick(nine, 9, from_ten));
+    pick(six, 6, pick(seven, 7, from_eight))
 }
 
 fn pick(applies: bool, number: u8, otherwise: u8) -> u8
