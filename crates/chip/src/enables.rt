@@ -12,11 +12,14 @@ pub struct Enables {
     pub clean: bool,
 }
 
-// The fall that an RT LOW in this sample belongs to: this sample's, or an earlier one's.
+// The fall that an RT LOW in this sample belongs to: this sample's, or an earlier one's. RT is asked first and then its last level: the
+// compiler makes less of it than of one test for both.
 pub fn is_last_fall_clean(p: Pins, s: State) -> bool
     ensures { λ r. ⌜ r ≡ lastFallClean p (s .enables) ⌝ }
 {
-    if s.enables.rt & !p.rt {
+    if p.rt {
+        s.enables.clean
+    } else if s.enables.rt {
         p.ren & p.wen & s.enables.ren & s.enables.wen
     } else {
         s.enables.clean
