@@ -1,4 +1,4 @@
--- Samples that nothing refuses, or nothing but 5: resets, those in which no clock rises, and free ones.
+-- Samples that nothing refuses once there has been a Master Reset: resets, those in which no clock rises, and free ones.
 use Prim.Native.Nat.{ℕ}
 use mathlib.Core.Bool.{true, false, not, _&&_, and-eq-true-iff, and-false}
 use mathlib.Core.Path.{_≡_, refl}
