@@ -1,5 +1,5 @@
 // Trace sample, its second paragraph: the lines of the chip in a state, as answered.
-ghost use Rattle.chip.specs.Answer.{answerOf, efLevel, ffLevel};
+ghost use Rattle.chip.specs.Answer.{answerOf, efLevel, ffLevel, linesOf};
 ghost use mathlib.Core.Path.{_≡_};
 use super::state::State;
 use counts::part::Part;
@@ -10,6 +10,12 @@ use sides::read::Mode;
 pub fn answer(part: Part, p: Pins, s: State) -> u32
     ensures { λ r. ⌜ r ≡ answerOf part p s ⌝ }
 {
+    pins::answer::pack(lines(part, p.oe, s))
+}
+
+pub fn lines(part: Part, oe: bool, s: State) -> Lines
+    ensures { λ r. ⌜ r ≡ linesOf part oe s ⌝ }
+{
     let read = s.read;
     let mode = read.mode;
     let reading = s.reading;
@@ -19,15 +25,15 @@ pub fn answer(part: Part, p: Pins, s: State) -> u32
     let words = counts::round::words_ahead(s.write.count, s.read.count);
     let hf = !views::flags::is_hf_low(part, words);
     let q = offsets::reading::show(shows, s.read.output);
-    pins::answer::pack(Lines {
+    Lines {
         ff: ff,
         ef: ef,
         hf: hf,
         pae: s.read.pae,
         paf: s.write.paf,
-        driven: !p.oe,
+        driven: !oe,
         q: q,
-    })
+    }
 }
 
 fn ff_level(mode: Mode, full: bool) -> bool

@@ -1,4 +1,5 @@
 // The state between two samples, and the test of What is turned away, 3.
+ghost use Rattle.chip.specs.ResetLaws.{isFwft};
 ghost use Rattle.chip.specs.State.{Tested, inReach, widths};
 ghost use Rattle.counts.specs.Part.{depthOf};
 ghost use mathlib.Core.Path.{_≡_};
@@ -6,6 +7,7 @@ use super::enables::Enables;
 use counts::part::Part;
 use offsets::reading::Reading;
 use offsets::registers::Offsets;
+use sides::read::Mode;
 use sides::read::ReadSide;
 use sides::write::WriteSide;
 
@@ -48,4 +50,15 @@ fn is_in_reach(part: Part, s: State) -> bool
         & (counts::round::words_behind(count, s.read.first) <= depth)
         & (second_behind <= depth)
         & (second_behind <= held)
+}
+
+pub fn is_fwft(s: State) -> bool
+    ensures { λ r. ⌜ r ≡ isFwft (s .read .mode) ⌝ }
+{
+    let read = s.read;
+    let mode = read.mode;
+    match mode {
+        Mode::Standard => false,
+        Mode::Fwft { untaken: _ } => true,
+    }
 }

@@ -98,8 +98,8 @@ pub fn refuse_record(part: Part, record: u32, state: State) -> u8
     refusals::refuse::refusal(part, pins::record::decode(record), state)
 }
 
-// What a record that is not refused gives.
-fn take(part: Part, p: Pins, state: State, memory: &mut [u32]) -> Sampled
+// What a sample that is not refused gives.
+pub fn take(part: Part, p: Pins, state: State, memory: &mut [u32]) -> Sampled
     requires { ⌜ widths part state ≡ true ⌝ }
     ensures { λ r. ⌜ Gives (taken part p state (now (memory .entry))) r (now (memory .exit)) ⌝ }
 {

@@ -20,7 +20,7 @@ pub record Steady {X S M L : Type 0} (step : Stepping X S M) (fits : S → Bool)
   pub sizes : (x : X) (s : S) (memory : M) → size (step x s memory .memory) ≡ size memory
   pub rooms : (x : X) (s : S) (memory : M) (index : ℕ) (room : List ℕ) → length (step x s memory .answers index room) ≡ length room
 
-stopped-number : (lenient : Bool) (number : ℕ) → stops lenient number ≡ true → number ≢ 0
+pub stopped-number : (lenient : Bool) (number : ℕ) → stops lenient number ≡ true → number ≢ 0
 stopped-number true number s none = true≢false (sym s)
 stopped-number false number s none = true≢false (sym s ∙ ap not (eq-eqb number 0 none))
 

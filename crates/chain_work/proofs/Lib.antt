@@ -1,0 +1,4 @@
+pub mod RowLaws
+pub mod JudgeLaws
+pub mod MoveTurns
+pub mod WorkLaws
