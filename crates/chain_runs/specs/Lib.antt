@@ -1,0 +1,6 @@
+pub mod Test
+pub mod TestLaws
+pub mod Sample
+pub mod SampleLaws
+pub mod Run
+pub mod RunLaws
