@@ -1,3 +1,5 @@
 pub mod Chain
 pub mod ChainLaws
 pub mod ListLaws
+pub mod Unique
+pub mod StillLaws

@@ -1,6 +1,6 @@
 -- What is turned away before any record is looked at, in the table's order. Part numbers and depths stand in plain figures, so that a definition
 -- that says another is refused here.
-use Prim.Native.Nat.{ℕ, zero, suc, _*_, _≤_, _<_}
+use Prim.Native.Nat.{ℕ, _*_, _≤_, _<_}
 use mathlib.Core.Bool.{Bool, true, false, cond, _&&_, and-false}
 use mathlib.Core.Logic.{_≢_}
 use mathlib.Core.Path.{_≡_, refl, sym, ap, subst, _∙_}
@@ -11,7 +11,7 @@ use native.Mathlib.Omega.{arith}
 use Rattle.chain_work.specs.declared.row.Row.{Row}
 use Rattle.chain_work.specs.Fits.{fits, widthsTo}
 use Rattle.chain_work.specs.Step.{passesPart, passesTo, stateOf}
-use Rattle.chain_work.specs.StepLaws.{told-fits}
+use Rattle.chain_work.specs.StepLaws.{all-at, all-by, told-fits}
 use Rattle.chip.specs.State.{passes, widths}
 use Rattle.chip.specs.Widths.{tested-widths}
 use Rattle.counts.specs.Both.{both}
@@ -75,12 +75,9 @@ passing number row words roomy part e = test-by (partOf number) row words roomy 
 
 -- a part that passes 3 has the widths
 passes-widths : (part : Part) (row : Row) (n : ℕ) → passesTo part row n ≡ true → widthsTo part row n ≡ true
-unfolding passesTo widthsTo passesPart
-passes-widths part row zero e = refl
-passes-widths part row (suc n) e =
-    let here = both (passesTo part row n) (passesPart part (stateOf row n)) e in
-    let own = both (passes part (stateOf row n)) _ (here .1) in
-    simp (passes-widths part row n (here .0), tested-widths part (stateOf row n) (own .0))
+unfolding passesPart
+passes-widths part row n e =
+    all-by (widths part) row n (λ i l. tested-widths part (stateOf row i) (both (passes part (stateOf row i)) _ (all-at (passesPart part) row n i e l) .0))
 
 pub passing-fits : {part : Part} {row : Row} {words : ℕ} {roomy : Bool} → length (row .states) ≡ 8 → Passing part row words roomy → fits part words row ≡ true
 passing-fits {part} {row} {words} eight p =

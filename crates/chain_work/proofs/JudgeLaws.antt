@@ -16,7 +16,7 @@ use Rattle.pins.specs.declared.answer.Lines.{Lines}
 use Rattle.pins.specs.declared.record.Pins.{Pins}
 use Rattle.refusals.specs.Refuse.{refusalOf}
 use Rattle.chain_work.specs.declared.row.Row.{Row}
-use Rattle.chain_work.specs.Step.{chainRefusal, judgedTo, passesPart, passesTo, shownBy, startedTo, stateOf, wiredTo}
+use Rattle.chain_work.specs.Step.{allTo, chainRefusal, judgedTo, passesPart, passesTo, shownBy, startedTo, stateOf, wiredTo}
 use Rattle.chain_work.specs.WiringLaws.{seen, wired-now}
 use Rattle.chain_work.proofs.RowLaws.{same-at}
 
@@ -27,7 +27,7 @@ module _ (row : Row) (eight : length (row .states) ≡ 8) where
 
   pub passed-now : (part : Part) {count i : ℕ} → i < count → count ≤ 8 → {pass : Bool} → pass ≡ passesTo part row i → (other : State) → {r : Bool} → r ≡ passesPart part (getD (row .states) i other)
       → pass && r ≡ passesTo part row (i + 1)
-  unfolding passesTo
+  unfolding allTo
   passed-now part {count} {i} l m e other f = rw (add-one i) (rw (e, f, state-at i other (omega (arith, l, m))) refl)
 
 pub all-passed : (part : Part) (row : Row) {count i : ℕ} {pass : Bool} → i ≤ count → count ≤ i → pass ≡ passesTo part row i → pass ≡ passesTo part row count
@@ -42,7 +42,7 @@ pub record Judging (part : Part) (x : Links) (row : Row) (earlier : Lines) (star
 
 module _ (part : Part) (x : Links) (row : Row) (eight : length (row .states) ≡ 8) where
   pub judging : (other : State) {earlier : Lines} → earlier ≡ linesOf part false (getD (row .states) 0 other) → Judging part x row earlier true 0 0
-  unfolding startedTo judgedTo
+  unfolding allTo judgedTo
   judging other e = record { within = omega arith; shows = e ∙ ap (linesOf part false) (state-at row eight 0 other (omega arith)); reset = refl; judged = refl }
 
   module _ {earlier : Lines} {started : Bool} {number i : ℕ} (j : Judging part x row earlier started number i) (l : i < row .count) (most : row .count ≤ 8) where
@@ -57,7 +57,7 @@ module _ (part : Part) (x : Links) (row : Row) (eight : length (row .states) ≡
     pub judged-now : (own : State) {p : Pins} → p ≡ wiredTo part x row i → {r : ℕ} → r ≡ refusalOf part p (getD (row .states) i own) → {next : ℕ} → next ≡ least number r
         → {after : Lines} → after ≡ linesOf part false (getD (row .states) i own)
         → Judging part x row after (started && (getD (row .states) i own) .started) next (i + 1)
-    unfolding startedTo judgedTo
+    unfolding allTo judgedTo
     judged-now own e f g h =
         let here = state-at row eight i own below in
         let back : i + 1 - 1 ≡ i = omega arith in

@@ -1,4 +1,4 @@
 pub mod RowLaws
 pub mod JudgeLaws
-pub mod MoveTurns
+pub mod TurnLaws
 pub mod WorkLaws

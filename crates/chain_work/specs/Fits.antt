@@ -1,18 +1,16 @@
 -- What a run relies on of its row: no more than eight parts, numbers within their widths, and words for every part.
-use Prim.Native.Nat.{ℕ, zero, suc, _*_}
-use mathlib.Core.Bool.{Bool, true, _&&_}
+use Prim.Native.Nat.{ℕ, _*_}
+use mathlib.Core.Bool.{Bool, _&&_}
 use lib.Dec.{eqb, leb}
 use lib.ListN.{length}
 use Rattle.chip.specs.State.{widths}
 use Rattle.counts.specs.declared.part.Part.{Part}
 use Rattle.counts.specs.Part.{depthOf}
 use Rattle.chain_work.specs.declared.row.Row.{Row}
-use Rattle.chain_work.specs.Step.{stateOf}
+use Rattle.chain_work.specs.Step.{allTo}
 
--- of the first i parts
-unfoldable pub widthsTo : Part → Row → ℕ → Bool
-widthsTo part row zero = true
-widthsTo part row (suc i) = widthsTo part row i && widths part (stateOf row i)
+abbrev pub widthsTo : Part → Row → ℕ → Bool
+widthsTo part row i = allTo (widths part) row i
 
 unfoldable pub fits : Part → ℕ → Row → Bool
 fits part words row =

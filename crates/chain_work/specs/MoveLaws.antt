@@ -2,12 +2,13 @@
 use Prim.Native.Nat.{ℕ, zero, suc, _+_, _*_, _-_, _≤_, _<_}
 use mathlib.Core.Bool.{Bool, true, false, cond}
 use mathlib.Core.List.{List, [], _∷_, _++_}
-use mathlib.Core.Logic.{_≢_}
+use mathlib.Core.Logic.{_≢_, ⊎-elim}
 use mathlib.Core.Path.{_≡_, refl, sym, ap, _∙_}
 use lib.Dec.{ltb}
 use lib.ListN.{drop, getD, length, length-append, length-set, set, take, take-append-drop}
 use lib.Seq.{getD-set-other, getD-set-same}
 use borrow.Author.Tests.{lt-ltb}
+use native.Mathlib.Nat.{eq-or-lt-of-le, le-of-suc-le-suc, not-suc-le-zero}
 use native.Mathlib.Omega.{arith}
 use Rattle.chip.specs.declared.state.State.{State}
 use Rattle.chip.specs.Advance.{advanced}
@@ -120,3 +121,15 @@ module _ (part : Part) (x : Links) (row : Row) (memory : List ℕ) where
       with-either (movedTo part x row memory n .row) n _ (λ s. widths part s ≡ true) j
       (part-widths part (wiredTo part x row n) (stateOf row n) (n * depthOf part) (movedTo part x row memory n .memory) (all n (omega arith)))
       (moved-widths n j (λ k l. all k (omega (arith, l))) own)
+
+-- a part that has had its turn is what the single part makes of the pins that the row before the sample gives it
+pub moved-state : (part : Part) (x : Links) (row : Row) (memory : List ℕ) → length (row .states) ≡ 8 → (n i : ℕ) → n ≤ 8 → i < n
+    → stateOf (movedTo part x row memory n .row) i
+    ≡ movedPart part (wiredTo part x row i) (stateOf row i) (i * depthOf part) (movedTo part x row memory i .memory) .state
+unfolding movedTo
+moved-state part x row memory eight zero i most l = absurd (not-suc-le-zero l)
+moved-state part x row memory eight (suc n) i most l =
+    ⊎-elim
+    (λ same. rw same (with-same (movedTo part x row memory n .row) n _ (omega (arith, most)) (moved-eight part x row memory n ∙ eight)))
+    (λ below. with-other (movedTo part x row memory n .row) n _ i (λ e. omega (arith, e, below)) ∙ moved-state part x row memory eight n i (omega (arith, most)) below)
+    (eq-or-lt-of-le (le-of-suc-le-suc l))

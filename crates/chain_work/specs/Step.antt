@@ -29,13 +29,17 @@ use Rattle.chain_work.specs.Row.{withState}
 abbrev pub stateOf : Row → ℕ → State
 stateOf row i = getD (row .states) i poweredUp
 
+-- a test that each of the first i parts passes
+unfoldable pub allTo : (State → Bool) → Row → ℕ → Bool
+allTo test row zero = true
+allTo test row (suc i) = allTo test row i && test (stateOf row i)
+
 -- not refused 3: the part's own test, and no part has been reset into Standard; before a Master Reset a part is in no mode
 unfoldable pub passesPart : Part → State → Bool
 passesPart part s = passes part s && (not (s .started) || isFwft (s .read .mode))
 
-unfoldable pub passesTo : Part → Row → ℕ → Bool
-passesTo part row zero = true
-passesTo part row (suc i) = passesTo part row i && passesPart part (stateOf row i)
+abbrev pub passesTo : Part → Row → ℕ → Bool
+passesTo part row i = allTo (passesPart part) row i
 
 -- flags and data of a part, as it answers them with OE LOW
 abbrev pub shownBy : Part → Row → ℕ → Lines
@@ -46,9 +50,8 @@ unfoldable pub wiredTo : Part → Links → Row → ℕ → Pins
 wiredTo part x row i = wired x (marksOf (x .more) i) (eqb i 0) (eqb (i + 1) (row .count)) (shownBy part row (i - 1)) (shownBy part row (i + 1))
 
 -- the first i parts have had a Master Reset
-unfoldable pub startedTo : Row → ℕ → Bool
-startedTo row zero = true
-startedTo row (suc i) = startedTo row i && stateOf row i .started
+abbrev pub startedTo : Row → ℕ → Bool
+startedTo row i = allTo (λ s. s .started) row i
 
 -- the least number that one of the first i parts gives, by its own table and by the row before the sample
 unfoldable pub judgedTo : Part → Links → Row → ℕ → ℕ

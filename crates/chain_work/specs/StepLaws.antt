@@ -9,6 +9,7 @@ use lib.ListN.{length}
 use borrow.Author.Tests.{eq-eqb, eqb-true, le-leb, leb-true, ne-eqb}
 use native.Mathlib.Nat.{eq-or-lt-of-le, le-of-suc-le-suc, not-suc-le-zero}
 use native.Mathlib.Omega.{arith}
+use Rattle.chip.specs.declared.state.State.{State}
 use Rattle.chip.specs.State.{widths}
 use Rattle.counts.specs.declared.part.Part.{Part}
 use Rattle.counts.specs.Both.{both}
@@ -18,23 +19,22 @@ use Rattle.links.specs.declared.record.Links.{Links}
 use Rattle.chain_work.specs.declared.row.Row.{Row}
 use Rattle.chain_work.specs.Fits.{fits, widthsTo}
 use Rattle.chain_work.specs.MoveLaws.{moved-count, moved-eight, moved-length, moved-widths}
-use Rattle.chain_work.specs.Step.{After, Moving, chainRefusal, chainStepped, movedTo, stateOf, took, turnedAway}
+use Rattle.chain_work.specs.Step.{After, Moving, allTo, chainRefusal, chainStepped, movedTo, stateOf, took, turnedAway}
 
--- each of the first n has the widths
-pub widths-at : (part : Part) (row : Row) (n i : ℕ) → widthsTo part row n ≡ true → i < n → widths part (stateOf row i) ≡ true
-unfolding widthsTo
-widths-at part row zero i e l = absurd (not-suc-le-zero l)
-widths-at part row (suc n) i e l =
-    let here = both (widthsTo part row n) (widths part (stateOf row n)) e in
-    ⊎-elim (λ z. subst (λ (k : ℕ). widths part (stateOf row k) ≡ true) (sym z) (here .1)) (λ z. widths-at part row n i (here .0) z)
+-- each of the first n passes the test, and nothing else is asked
+pub all-at : (test : State → Bool) (row : Row) (n i : ℕ) → allTo test row n ≡ true → i < n → test (stateOf row i) ≡ true
+unfolding allTo
+all-at test row zero i e l = absurd (not-suc-le-zero l)
+all-at test row (suc n) i e l =
+    let here = both (allTo test row n) (test (stateOf row n)) e in
+    ⊎-elim (λ z. subst (λ (k : ℕ). test (stateOf row k) ≡ true) (sym z) (here .1)) (λ z. all-at test row n i (here .0) z)
     (eq-or-lt-of-le (le-of-suc-le-suc l))
 
-pub widths-all : (part : Part) (row : Row) (n : ℕ) → ((i : ℕ) → i < n → widths part (stateOf row i) ≡ true) → widthsTo part row n ≡ true
-unfolding widthsTo
-widths-all part row zero all = refl
-widths-all part row (suc n) all =
-    and-eq-true-iff (widthsTo part row n) (widths part (stateOf row n)) .1
-    (widths-all part row n (λ i l. all i (omega (arith, l))), all n (omega arith))
+pub all-by : (test : State → Bool) (row : Row) (n : ℕ) → ((i : ℕ) → i < n → test (stateOf row i) ≡ true) → allTo test row n ≡ true
+unfolding allTo
+all-by test row zero all = refl
+all-by test row (suc n) all =
+    and-eq-true-iff (allTo test row n) (test (stateOf row n)) .1 (all-by test row n (λ i l. all i (omega (arith, l))), all n (omega arith))
 
 pub record Fitting (part : Part) (words : ℕ) (row : Row) : Type 0 where
   pub most : row .count ≤ 8
@@ -93,9 +93,9 @@ module _ (part : Part) (x : Links) (row : Row) (memory : List ℕ) where
         eight = moved-eight part x row memory (row .count) ∙ f .eight;
         enough = rw same (f .enough);
         wide = rw same
-            (widths-all part (moved .row) (row .count)
-            (λ i l. moved-widths part x row memory (row .count) i (λ k m. widths-at part row (row .count) k (f .wide) m)
-            (widths-at part row (row .count) i (f .wide) l)));
+            (all-by (widths part) (moved .row) (row .count)
+            (λ i l. moved-widths part x row memory (row .count) i (λ k m. all-at (widths part) row (row .count) k (f .wide) m)
+            (all-at (widths part) row (row .count) i (f .wide) l)));
       }
 
   pub step-fits : (words : ℕ) → fits part words row ≡ true → fits part words (chainStepped part x row memory .row) ≡ true

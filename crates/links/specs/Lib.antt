@@ -1,3 +1,6 @@
 pub mod Record
+pub mod RecordLaws
 pub mod Wire
+pub mod WireLaws
 pub mod Refuse
+pub mod RefuseLaws

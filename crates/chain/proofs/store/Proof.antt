@@ -54,7 +54,7 @@ use Rattle.chip.proofs.state.State as R
 use Rattle.chip.proofs.state.State.Laws as R′
 use Rattle.chain_work.specs.declared.row.Row.{Row}
 use Rattle.chain_work.specs.Row.{chosenOf, storedTo}
-use Rattle.chain.specs.ListLaws.{length-stored}
+use Rattle.chain.specs.ListLaws.{stored-length}
 use Rattle.chain_work.proofs.row.Row as S
 use Rattle.chain_work.proofs.row.Row.Laws as S′
 use Rattle.chain_work.proofs.row.chosen as chosen
@@ -133,9 +133,9 @@ module _ {M : Type 1} (𝓤 : URA M) (H : Heap 𝓤) (A : Atoms 𝓤) (W : Given
   exits : Room P n → ent 𝓤 (⋆ 𝓤 H A (‵ (fobs γ (codedHoleys P .code (heres P (zs n)))) ∷ ‵ (fbor κ (Held P (length (zs n)) b o γ)) ∷ ‵ (flft κ q) ∷ ‵ (fsep Own ftrue) ∷ [])) (Post vunit)
   exits gn =
       qed W (‵ (fobs γ (codedHoleys P .code (heres P (zs n)))) ∷ ‵ (fbor κ (Held P (length (zs n)) b o γ)) ∷ ‵ (flft κ q) ∷ ‵ (fsep Own ftrue) ∷ []) ∵
-      suffices ! _ (ends-at 𝓤 H A self.ended stayed (self.clauses 𝓤 H A mem run) W (((κ, tt), (q, tt), tt, x, at), tt) vunit tt (zs n, (tt, tt)) (length-stored (r₀) ys n, (tt, tt))) $ says ! refl $
+      suffices ! _ (ends-at 𝓤 H A self.ended stayed (self.clauses 𝓤 H A mem run) W (((κ, tt), (q, tt), tt, x, at), tt) vunit tt (zs n, (tt, tt)) (stored-length (r₀) ys n, (tt, tt))) $ says ! refl $
       nothing ! $ move ! (3 ∷ 0 ∷ []) $ join ! $
-      frame ! $ fjoin ! $ pureI ! (at-slice P (record { ptr = (b, o); name = γ; now = zs n }) (at .0)) (tt, (tt, tt)) (ap (λ (m : ℕ). sliceVal (b, o) m ∷ []) (sym (length-stored (r₀) ys n)), subst (Room P) (sym (length-stored (r₀) ys n)) gn) $ fjoin ! $ fjoin ! $ frame ! $
+      frame ! $ fjoin ! $ pureI ! (at-slice P (record { ptr = (b, o); name = γ; now = zs n }) (at .0)) (tt, (tt, tt)) (ap (λ (m : ℕ). sliceVal (b, o) m ∷ []) (sym (stored-length (r₀) ys n)), subst (Room P) (sym (stored-length (r₀) ys n)) gn) $ fjoin ! $ fjoin ! $ frame ! $
       feqI ! (List Val) (vunit ∷ []) (vunit ∷ []) refl $ done !
 
   -- the call of a turn: what it is passed, what it asks, and what is known of its result
@@ -182,7 +182,7 @@ module _ {M : Type 1} (𝓤 : URA M) (H : Heap 𝓤) (A : Atoms 𝓤) (W : Given
     unfolding afterTurn storedTo
     more i X small k =
         let g8 : i * size < 2 ^ 64 = scaled i n small (gn .1) in
-        let l : i < length (zs i) = subst (λ (m : ℕ). i < m) (sym (length-stored (r₀) ys i)) small in
+        let l : i < length (zs i) = subst (λ (m : ℕ). i < m) (sym (stored-length (r₀) ys i)) small in
         qed W (At i) ∵ exec ! C Λ En body.turn-1 (anyQ (afterTurn 𝓤 H X Left)) $
         assigns ! (of-opd ! (load ! (from ! (fld ! refl (stop !))) (look-in ! 9 (sub ! 1 refl (whole !))))) (from ! (stop !)) (init ! 2 refl (tt, record { fits = gn .0 })) $
         assigns ! (bin ! (load ! (from ! (stop !)) (look ! 1 refl)) (load ! (from ! (stop !)) (look ! 2 refl)) tt) (from ! (stop !)) (init ! 3 refl (tt, tt)) $
@@ -230,7 +230,7 @@ module _ {M : Type 1} (𝓤 : URA M) (H : Heap 𝓤) (A : Atoms 𝓤) (W : Given
         rewrite ! 3 (λ (t : Bool). ‵ (fat fullShare tyBool l₅ 0 (vbool t))) (le-ltb n n (omega arith)) refl $
         leaves-loop ! (load ! (from ! (stop !)) (look ! 3 refl)) $ exec ! C Λ En rest (atRet En Post) $
         assigns ! (of-opd ! (unit-lit !)) (from ! (stop !)) (init ! 11 refl (tt, tt)) $
-        move ! (0 ∷ 13 ∷ 14 ∷ 15 ∷ []) $ closes-slice ! tt P ys (zs n) (length-stored (r₀) ys n) b o $
+        move ! (0 ∷ 13 ∷ 14 ∷ 15 ∷ []) $ closes-slice ! tt P ys (zs n) (stored-length (r₀) ys n) b o $
         -- [obs; the borrow; the token; _3; …; _10; _1; _2; _0; what r owns; and that each local dies]
         returns ! (look ! 13 refl) $ forget ! 3 refl $ forget ! 4 refl $ forget ! 5 refl $ forget ! 11 refl $ forget ! 12 refl $ forget ! 13 refl $
         move ! (13 ∷ 15 ∷ []) $ free1 ! $ move ! (11 ∷ 14 ∷ []) $ free1 ! $ move ! (11 ∷ 13 ∷ []) $ free1 ! $ move ! (3 ∷ 12 ∷ []) $ free1 ! $ move ! (3 ∷ 11 ∷ []) $ free1 ! $ move ! (3 ∷ 10 ∷ []) $ free1 ! $

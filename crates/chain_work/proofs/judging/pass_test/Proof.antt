@@ -3,7 +3,7 @@ use mathlib.Core.Path.{_≡_, refl, sym, _∙_}
 use lib.ListN.{length, length-map}
 use borrow.Author.Needs.{needs}
 use native.Mathlib.Omega.{arith}
-use Rattle.chain_work.specs.Step.{passesTo}
+use Rattle.chain_work.specs.Step.{allTo, passesTo}
 use Rattle.chain_work.proofs.JudgeLaws.{all-passed, passed-now}
 use Rattle.chain_work.proofs.judging.pass_test.Statement.{statement}
 use Rattle.chain_work.proofs.judging.pass_test.Tie as tie
@@ -15,7 +15,7 @@ abbrev μ-loop : tie.MeasureT-loop
 μ-loop part row count pass₀ i₀ pass i = count - i
 
 loop-holds : tie.Need-loop-holds Inv-loop μ-loop
-unfolding passesTo
+unfolding allTo
 loop-holds c = (omega arith, refl)
 
 mul-s : tie.Need-mul-s Inv-loop μ-loop

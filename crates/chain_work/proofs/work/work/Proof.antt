@@ -7,7 +7,7 @@ use Rattle.notes.specs.Fold.{started}
 use Rattle.chain_work.specs.Records.{wholeRecords}
 use Rattle.chain_work.specs.RecordsLaws.{whole-below}
 use Rattle.chain_work.specs.StepLaws.{fits-told}
-use Rattle.chain_work.proofs.MoveTurns.{Doing, all-moved, answer-now, base-within, below, doing, eight, moved-now, moving-most, same-words, wide-at, wired-at}
+use Rattle.chain_work.proofs.TurnLaws.{Doing, all-moved, answer-now, base-within, below, doing, eight, moved-now, moving-most, same-words, wide-at, wired-at}
 use Rattle.chain_work.proofs.WorkLaws.{Going, ended-now, going, no-whole, stopped-now, turned-now}
 use Rattle.chain_work.proofs.work.work.Statement.{statement}
 use Rattle.chain_work.proofs.work.work.Tie as tie

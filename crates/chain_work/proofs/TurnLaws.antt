@@ -23,7 +23,7 @@ use Rattle.chain_work.specs.declared.row.Row.{Row}
 use Rattle.chain_work.specs.MoveLaws.{moved-count, moved-eight, moved-later, moved-length, with-set}
 use Rattle.chain_work.specs.Row.{withState}
 use Rattle.chain_work.specs.Step.{Moved, Moves, Moving, chainAnswer, movedPart, movedTo, oneMoved, shownBy, stateOf, wiredTo}
-use Rattle.chain_work.specs.StepLaws.{Fitting, widths-at}
+use Rattle.chain_work.specs.StepLaws.{Fitting, all-at}
 use Rattle.chain_work.specs.WiringLaws.{seen, wired-now}
 use Rattle.chain_work.proofs.JudgeLaws.{state-at}
 
@@ -83,7 +83,7 @@ module _ (part : Part) (x : Links) (before : Row) (words : List ℕ) (room : ℕ
           omega (arith, mul-le-mul {n₁ = i} {m₁ = depth} {n₂ = before .count} {m₂ = depth} (omega (arith, l, most)) (omega arith), subst (λ (n : ℕ). before .count * n ≤ room) (sym e) (f .enough), same-words, g)
 
       pub wide-at : (other : State) → widths part (getD (row .states) i other) ≡ true
-      wide-at other = rw (still-at i other (omega arith) below) (widths-at part before (before .count) i (f .wide) (omega (arith, l, most)))
+      wide-at other = rw (still-at i other (omega arith) below) (all-at (widths part) before (before .count) i (f .wide) (omega (arith, l, most)))
 
       pub moved-now : (own : State) {p : Pins} → p ≡ wiredTo part x before i → {depth : ℕ} → depth ≡ depthOf part → {s : State} {after : List ℕ}
           → Moves (movedPart part p (getD (row .states) i own) (i * depth) memory) s after
