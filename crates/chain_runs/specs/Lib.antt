@@ -4,3 +4,4 @@ pub mod Sample
 pub mod SampleLaws
 pub mod Run
 pub mod RunLaws
+pub mod Unique

@@ -1,6 +1,6 @@
 -- Order 4, on a run: how it begins.
 use Prim.Native.Nat.{ℕ, _*_, _≤_}
-use mathlib.Core.Bool.{Bool, true}
+use mathlib.Core.Bool.{Bool, true, not, _||_}
 use mathlib.Core.List.{List}
 use mathlib.Core.Path.{_≡_, refl, sym, ap, _∙_}
 use lib.Dec.{leb}
@@ -31,4 +31,7 @@ module _ (lenient : Bool) (number : ℕ) (bytes : List ℕ) (g : Progress) {room
 
 -- where there is room, there is room for the answers
 pub room-told : (lenient : Bool) (bytes : List ℕ) (g : Progress) → roomyFor lenient bytes g ≡ true → wholeRecords bytes * 3 ≤ length (g .answers)
-room-told lenient bytes g e = leb-true _ _ (both _ _ e .0)
+room-told lenient bytes g e =
+    let answers = leb (wholeRecords bytes * 3) (length (g .answers)) in
+    let marks = not lenient || leb (wholeRecords bytes) (length (g .marks)) in
+    leb-true _ _ (both answers marks e .0)

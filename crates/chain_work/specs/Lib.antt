@@ -7,3 +7,4 @@ pub mod RecordsLaws
 pub mod MoveLaws
 pub mod StepLaws
 pub mod WiringLaws
+pub mod Unique

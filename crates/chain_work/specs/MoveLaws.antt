@@ -111,7 +111,7 @@ module _ (part : Part) (x : Links) (row : Row) (memory : List ℕ) where
   unfolding movedTo
   moved-length zero = refl
   moved-length (suc n) =
-      part-length part (wiredTo part x row n) (stateOf row n) (n * depthOf part) (movedTo part x row memory n .memory) ∙ moved-length n
+      part-length part _ (stateOf row n) (n * depthOf part) (movedTo part x row memory n .memory) ∙ moved-length n
 
   pub moved-widths : (n j : ℕ) → ((k : ℕ) → k < n → widths part (stateOf row k) ≡ true) → widths part (stateOf row j) ≡ true
       → widths part (stateOf (movedTo part x row memory n .row) j) ≡ true
@@ -119,7 +119,7 @@ module _ (part : Part) (x : Links) (row : Row) (memory : List ℕ) where
   moved-widths zero j all own = own
   moved-widths (suc n) j all own =
       with-either (movedTo part x row memory n .row) n _ (λ s. widths part s ≡ true) j
-      (part-widths part (wiredTo part x row n) (stateOf row n) (n * depthOf part) (movedTo part x row memory n .memory) (all n (omega arith)))
+      (part-widths part _ (stateOf row n) (n * depthOf part) (movedTo part x row memory n .memory) (all n (omega arith)))
       (moved-widths n j (λ k l. all k (omega (arith, l))) own)
 
 -- a part that has had its turn is what the single part makes of the pins that the row before the sample gives it

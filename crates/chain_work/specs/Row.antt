@@ -2,6 +2,7 @@
 use Prim.Native.Nat.{ℕ, zero, suc}
 use mathlib.Core.Bool.{cond}
 use mathlib.Core.List.{List}
+use mathlib.Core.Path.{_≡_}
 use lib.Dec.{ltb}
 use lib.ListN.{getD, length, replicate, set}
 use Rattle.chip.specs.declared.state.State.{State}
@@ -34,3 +35,6 @@ storedTo row states (suc i) = set (storedTo row states i) i (chosenOf row i (get
 
 abbrev pub putBack : Row → List State → List State
 putBack row states = storedTo row states (length states)
+
+abbrev pub PoweredUp : ℕ → Row → Type 0
+PoweredUp count r = r ≡ emptyRow count

@@ -1,5 +1,5 @@
 // Up to eight part states by value, and how many there are.
-ghost use Rattle.chain_work.specs.Row.{chosenOf, emptyRow, withState};
+ghost use Rattle.chain_work.specs.Row.{PoweredUp, chosenOf, withState};
 ghost use mathlib.Core.Path.{_≡_};
 use chip::state::State;
 
@@ -10,7 +10,7 @@ pub struct Row {
 
 // So many parts, each as at power-up.
 pub fn power_up(count: usize) -> Row
-    ensures { λ r. ⌜ r ≡ emptyRow count ⌝ }
+    ensures { λ r. ⌜ PoweredUp count r ⌝ }
 {
     let s = chip::reset::power_up();
     let states = [s; 8];
