@@ -7,4 +7,5 @@ pub mod RecordsLaws
 pub mod MoveLaws
 pub mod StepLaws
 pub mod WiringLaws
+pub mod EndLaws
 pub mod Unique

@@ -1,0 +1,2 @@
+pub mod FromPowerUp
+pub mod Unique
