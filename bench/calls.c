@@ -1,7 +1,8 @@
 // calls [RUST-255 RUST-265 [PLAIN-255 PLAIN-265]]: times the C call and the run against the plain C model, and the pair's
-// run against the run, in this one process, prints the ratios, then the cost of a record for traces of many lengths. The
-// arguments are nanoseconds that a record of the same traffic takes elsewhere: by the Rust reference, and, where that was
-// built for another processor than this program, by the plain C model built for that processor too.
+// run and the chain's against the run, in this one process, prints the ratios, then the cost of a record for traces of many
+// lengths. The arguments are nanoseconds that a record of the same traffic takes elsewhere: by the Rust reference, and,
+// where that was built for another processor than this program, by the plain C model built for that processor too.
+#include "chain.h"
 #include "halves.h"
 #include "timing.h"
 
@@ -9,11 +10,13 @@
 #include <stdlib.h>
 
 enum { RATIO_RECORDS = 1000000, LONGEST = 10000000 };
-enum { PARTS = 2, FILLS = 3, COLUMNS = PARTS * FILLS, LENGTHS = 4, TABLES = 2 };
+enum { PARTS = 2, FILLS = 3, COLUMNS = PARTS * FILLS, LENGTHS = 4, CHAIN_LENGTHS = 3, TABLES = 2 };
+enum { CHAINS = 2, NAME = 40 };
 
 static const uint32_t numbers[PARTS] = {255, 265};
 static const char *const fills[FILLS] = {[TRAFFIC_EMPTY] = "empty", [TRAFFIC_SWEPT] = "swept", [TRAFFIC_FULL] = "full"};
-static const size_t lengths[LENGTHS] = {10000, 100000, 1000000, LONGEST};
+static const size_t lengths[LENGTHS] = {10000, 100000, RATIO_RECORDS, LONGEST}; // a chain's are the first of them
+static const size_t chains[CHAINS] = {2, 8}; // in parts
 
 struct row {
     double of[PARTS];
@@ -63,6 +66,15 @@ static void measure(struct job *job, struct job *pair, struct row cost[MODELS], 
     }
 }
 
+static void measure_chains(struct job *job, struct row cost[CHAINS])
+{
+    for (int i = 0; i < CHAINS; i++)
+        for (int part = 0; part < PARTS; part++) {
+            size_t opening = put_chain(job, chains[i], numbers[part], TRAFFIC_SWEPT, RATIO_RECORDS);
+            cost[i].of[part] = nanoseconds(&by_chain_run, job, opening, RATIO_RECORDS);
+        }
+}
+
 static void print_ratios(const struct row cost[MODELS])
 {
     printf("%d records, memory swept from empty to full and back\n%-32s%9u%9u\n", RATIO_RECORDS, "part", numbers[0],
@@ -79,6 +91,19 @@ static void print_pair_ratio(struct row pair_cost, struct row run_cost)
     const struct row two = {{2, 2}};
     print_row(by_pair_run.name, pair_cost, "ns a sample");
     print_row("pair's run / twice the run", ratio(pair_cost, product(two, run_cost)), "goal 1.15");
+}
+
+static void print_chain_ratios(const struct row cost[CHAINS], struct row run_cost)
+{
+    for (int i = 0; i < CHAINS; i++) {
+        char name[NAME];
+        char goal[NAME];
+        snprintf(name, NAME, "%s of %zu parts", by_chain_run.name, chains[i]);
+        print_row(name, cost[i], "ns a record");
+        snprintf(name, NAME, "%s of %zu parts / run", by_chain_run.name, chains[i]);
+        snprintf(goal, NAME, "goal %zu.00", 3 * chains[i]);
+        print_row(name, ratio(cost[i], run_cost), goal);
+    }
 }
 
 static void print_reference_ratios(const struct row cost[MODELS], struct row reference)
@@ -101,12 +126,12 @@ static void print_ratios_through_plain(const struct row cost[MODELS], struct row
     print_row("run / Rust reference", product(ratio(cost[RUN], cost[PLAIN_MODEL]), of_plain), through);
 }
 
-static void print_table(const char *name, double cells[LENGTHS][COLUMNS])
+static void print_table(const char *name, double cells[][COLUMNS], int rows)
 {
     printf("\n%s: ns a record\n%10s", name, "records");
     for (int column = 0; column < COLUMNS; column++)
         printf("%5u %-5s", numbers[column / FILLS], fills[column % FILLS]);
-    for (int length = 0; length < LENGTHS; length++) {
+    for (int length = 0; length < rows; length++) {
         printf("\n%10zu", lengths[length]);
         for (int column = 0; column < COLUMNS; column++)
             printf("%9.1f  ", cells[length][column]);
@@ -125,26 +150,46 @@ static void print_tables(struct job *job)
                 cells[i][length][column] = nanoseconds(models[timed[i]], job, opening, lengths[length]);
     }
     for (int i = 0; i < TABLES; i++)
-        print_table(models[timed[i]]->name, cells[i]);
+        print_table(models[timed[i]]->name, cells[i], LENGTHS);
+}
+
+static void print_chain_table(struct job *job, size_t parts)
+{
+    char name[NAME];
+    double cells[CHAIN_LENGTHS][COLUMNS];
+    for (int column = 0; column < COLUMNS; column++) {
+        enum traffic_fill fill = (enum traffic_fill)(column % FILLS);
+        size_t opening = put_chain(job, parts, numbers[column / FILLS], fill, RATIO_RECORDS);
+        for (int length = 0; length < CHAIN_LENGTHS; length++)
+            cells[length][column] = nanoseconds(&by_chain_run, job, opening, lengths[length]);
+    }
+    snprintf(name, NAME, "%s of %zu parts", by_chain_run.name, parts);
+    print_table(name, cells, CHAIN_LENGTHS);
 }
 
 int main(int count, char **arguments)
 {
     struct row cost[MODELS];
     struct row pair_cost;
+    struct row chain_cost[CHAINS];
     if (count != 1 && count != 1 + PARTS && count != 1 + 2 * PARTS) {
         fputs("usage: calls [RUST-255 RUST-265 [PLAIN-255 PLAIN-265]]\n", stderr);
         return 2;
     }
     struct job job = new_job(LONGEST, 1);
     struct job pair = new_job(RATIO_RECORDS, 2);
+    struct job chain = new_job(RATIO_RECORDS, 2);
     measure(&job, &pair, cost, &pair_cost);
+    measure_chains(&chain, chain_cost);
     print_ratios(cost);
     print_pair_ratio(pair_cost, cost[RUN]);
+    print_chain_ratios(chain_cost, cost[RUN]);
     if (count == 1 + PARTS)
         print_reference_ratios(cost, read_row(arguments + 1));
     if (count == 1 + 2 * PARTS)
         print_ratios_through_plain(cost, read_row(arguments + 1), read_row(arguments + 1 + PARTS));
     print_tables(&job);
+    for (int i = 0; i < CHAINS; i++)
+        print_chain_table(&chain, chains[i]);
     return 0;
 }

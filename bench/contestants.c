@@ -1,5 +1,6 @@
 #include "contestants.h"
 
+#include "chain_c.h"
 #include "fifo.h"
 #include "pair_c.h"
 #include "run_c.h"
@@ -29,9 +30,16 @@ static size_t work_by_pair_run(const struct job *job, size_t samples)
                     job->answers, 6 * samples);
 }
 
+static size_t work_by_chain_run(const struct job *job, size_t records)
+{
+    return chain_run(job->number, job->parts, job->trace, 7 * records, job->words, job->parts * job->depth, job->answers,
+                     3 * records);
+}
+
 static const struct model by_c_call = {"C call", work_by_c_call};
 static const struct model by_run = {"run", work_by_run};
 const struct model by_pair_run = {"pair's run", work_by_pair_run};
+const struct model by_chain_run = {"chain's run", work_by_chain_run};
 
 const struct model *const models[MODELS] = {
     [PLAIN_MODEL] = &by_plain_model,

@@ -8,6 +8,7 @@
 struct job {
     uint32_t number;
     uint32_t depth;
+    size_t parts; // in a row; 1 where there is no chain
     uint8_t *trace;
     uint8_t *answers;
     uint32_t *words;
@@ -30,5 +31,8 @@ extern const struct model *const models[MODELS];
 
 // Its records are samples of two.
 extern const struct model by_pair_run;
+
+// Its records are of seven bytes.
+extern const struct model by_chain_run;
 
 #endif

@@ -7,7 +7,7 @@
 #include <string.h>
 #include <time.h>
 
-enum { DEEPEST = 16384, TIMED_RECORDS = 2000000, LEAST_REPEATS = 3, MOST_REPEATS = 200 };
+enum { DEEPEST = 16384, MOST_WORDS = 8 * DEEPEST, TIMED_RECORDS = 2000000, LEAST_REPEATS = 3, MOST_REPEATS = 200 };
 
 static void *lend(size_t bytes)
 {
@@ -21,11 +21,12 @@ static void *lend(size_t bytes)
 
 struct job new_job(size_t samples, size_t records_each)
 {
-    size_t most = (samples + 1 + 2 * DEEPEST) * records_each;
+    size_t most = (samples + 1 + 2 * MOST_WORDS) * records_each;
     return (struct job){
+        .parts = 1,
         .trace = lend(4 * most),
         .answers = lend(3 * most),
-        .words = lend(4 * DEEPEST),
+        .words = lend(4 * MOST_WORDS),
         .right_words = lend(4 * DEEPEST),
         .memory = lend(4 * DEEPEST),
     };
@@ -35,7 +36,7 @@ size_t put_trace(struct job *job, uint32_t number, enum traffic_fill fill, size_
 {
     job->number = number;
     job->depth = plain_part(number)->depth;
-    struct traffic traffic = traffic_start(job->depth, fill);
+    struct traffic traffic = traffic_start((uint32_t)job->parts * job->depth, fill);
     size_t opening = traffic_opening_records(&traffic);
     traffic_put_opening(&traffic, job->trace);
     traffic_put(&traffic, job->trace + 4 * opening, records);

@@ -5,7 +5,8 @@
 #include "contestants.h"
 #include "traffic.h"
 
-// With room for a trace of so many samples of traffic on either part, each of so many records.
+// With room for a trace of so many samples of traffic on either part, each of so many records, or for a chain's of up to
+// eight parts: its record takes the room of two.
 struct job new_job(size_t samples, size_t records_each);
 
 // The number of records in the opening, before the traffic.

@@ -6,6 +6,9 @@
 static const uint32_t IDLE = 0xCF980000;
 
 static const uint64_t SEED = 3;
+static const uint64_t LINKS_SEED = 7;
+
+enum { TRANSFER_CLOCK = 0x80, MARKS = 16 };
 
 struct traffic traffic_start(uint32_t depth, enum traffic_fill fill)
 {
@@ -41,7 +44,7 @@ void traffic_put_opening(const struct traffic *traffic, uint8_t *trace)
 {
     put_record(trace, (IDLE | WCLK | RCLK) & ~(MRS | LD));
     for (size_t i = 1; i < traffic_opening_records(traffic); i++)
-        put_record(trace + 4 * i, ((IDLE | RCLK) & ~WEN) | (i % 2 == 0 ? WCLK : 0) | (uint32_t)i);
+        put_record(trace + 4 * i, ((IDLE | RCLK) & ~WEN) | (i % 2 == 0 ? WCLK : 0) | ((uint32_t)i & WORD));
 }
 
 static int filling(const struct traffic *traffic)
@@ -60,7 +63,7 @@ static void start_burst(struct traffic *traffic)
     traffic->enables_low = (chance(traffic, write_parts) ? WEN : 0) | (chance(traffic, read_parts) ? REN : 0);
 }
 
-static uint32_t next_record(struct traffic *traffic)
+static void move_clocks(struct traffic *traffic)
 {
     if (traffic->burst_left == 0)
         start_burst(traffic);
@@ -68,6 +71,11 @@ static uint32_t next_record(struct traffic *traffic)
     traffic->made++;
     traffic->clocks ^= (traffic->made % traffic->write_pace == 0 ? WCLK : 0)
         | (traffic->made % traffic->read_pace == 0 ? RCLK : 0);
+}
+
+static uint32_t next_record(struct traffic *traffic)
+{
+    move_clocks(traffic);
     uint32_t skews_missed = (chance(traffic, 1) ? WRITE_SKEW_MET : 0) | (chance(traffic, 1) ? READ_SKEW_MET : 0);
     return (IDLE & ~traffic->enables_low & ~skews_missed) | traffic->clocks | (draw(traffic) & WORD);
 }
@@ -76,4 +84,33 @@ void traffic_put(struct traffic *traffic, uint8_t *trace, size_t records)
 {
     for (size_t i = 0; i < records; i++)
         put_record(trace + 4 * i, next_record(traffic));
+}
+
+static void put_links(uint8_t *bytes, int clock, uint32_t marks)
+{
+    bytes[0] = clock ? TRANSFER_CLOCK : 0;
+    bytes[1] = (uint8_t)(marks >> 8);
+    bytes[2] = (uint8_t)marks;
+}
+
+struct traffic traffic_start_links(void)
+{
+    struct traffic links = traffic_start(1, TRAFFIC_EMPTY);
+    links.random = LINKS_SEED;
+    return links;
+}
+
+// Of its two clocks the first stands for the transfer clock.
+void traffic_put_links(struct traffic *links, uint8_t *bytes)
+{
+    uint32_t marks = 0;
+    move_clocks(links);
+    for (int i = 0; i < MARKS; i++)
+        marks = 2 * marks + !chance(links, 1);
+    put_links(bytes, (links->clocks & WCLK) != 0, marks);
+}
+
+void traffic_put_opening_links(size_t record, uint8_t *bytes)
+{
+    put_links(bytes, record % 2 == 0, (1u << MARKS) - 1);
 }

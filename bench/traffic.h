@@ -29,4 +29,12 @@ void traffic_put_opening(const struct traffic *traffic, uint8_t *trace);
 
 void traffic_put(struct traffic *traffic, uint8_t *trace, size_t records);
 
+// The three bytes that follow a record in a chain's trace: the transfer clock, which keeps a pace of its own, and the marks of
+// eight parts. Their draws are their own too, so that the records are those of any other traffic.
+struct traffic traffic_start_links(void);
+void traffic_put_links(struct traffic *links, uint8_t *bytes);
+
+// In the opening the transfer clock changes with every record, so that what is written goes on to the last part.
+void traffic_put_opening_links(size_t record, uint8_t *bytes);
+
 #endif

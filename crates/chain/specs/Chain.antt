@@ -6,8 +6,8 @@ use mathlib.Core.Path.{_≡_}
 use Rattle.chain_runs.specs.declared.run.Report.{Report}
 use Rattle.chain_runs.specs.Run.{reportOf, runOf}
 use Rattle.chain_runs.specs.Sample.{rowSampled}
-use Rattle.chain_work.specs.Row.{putBack, rowOf}
-use Rattle.chain_work.specs.Step.{After}
+use Rattle.rows.specs.Row.{putBack, rowOf}
+use Rattle.rows.specs.Step.{After}
 use Rattle.chain_work.specs.Work.{Ended, ranOf}
 use Rattle.chip.specs.declared.state.State.{State}
 use Rattle.fifo.specs.declared.sample.Outcome.{Outcome}

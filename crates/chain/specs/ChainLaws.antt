@@ -7,9 +7,9 @@ use Rattle.chain_runs.specs.declared.run.Report.{Report}
 use Rattle.chain_runs.specs.declared.sample.Worked.{Worked}
 use Rattle.chain_runs.specs.Run.{RunsRow, reportOf}
 use Rattle.chain_runs.specs.Sample.{SamplesRow}
-use Rattle.chain_work.specs.declared.row.Row.{Row}
+use Rattle.rows.specs.declared.row.Row.{Row}
 use Rattle.chain_work.specs.declared.work.Ran.{Ran}
-use Rattle.chain_work.specs.Row.{putBack, rowOf}
+use Rattle.rows.specs.Row.{putBack, rowOf}
 use Rattle.chip.specs.declared.state.State.{State}
 use Rattle.fifo.specs.declared.sample.Outcome.{Outcome}
 use Rattle.chain.specs.Chain.{Runs, Samples}

@@ -8,10 +8,10 @@ use lib.Seq.{ext-getD, getD-set-other, getD-set-same, set-getD}
 use borrow.Author.Tests.{le-ltb, lt-ltb}
 use native.Mathlib.Decide.{decLt, ℕ-discrete}
 use native.Mathlib.Omega.{arith}
-use Rattle.chain_work.specs.declared.row.Row.{Row}
-use Rattle.chain_work.specs.MoveLaws.{with-count, with-length, with-other, with-same}
-use Rattle.chain_work.specs.Row.{chosenOf, emptyRow, loaded, putBack, rowOf, storedTo, withState}
-use Rattle.chain_work.specs.Step.{stateOf}
+use Rattle.rows.specs.declared.row.Row.{Row}
+use Rattle.rows.specs.MoveLaws.{with-count, with-length, with-other, with-same}
+use Rattle.rows.specs.Row.{chosenOf, emptyRow, loaded, putBack, rowOf, storedTo, withState}
+use Rattle.rows.specs.Step.{stateOf}
 use Rattle.chip.specs.declared.state.State.{State}
 use Rattle.chip.specs.Reset.{poweredUp}
 

@@ -14,12 +14,12 @@ use Rattle.chain_runs.specs.Sample.{rowSampled}
 use Rattle.chain_runs.specs.Test.{byTest, testOf}
 use Rattle.chain_work.specs.declared.records.Record.{Record}
 use Rattle.chain_work.specs.declared.records.Record.the-variants.{Whole, Leftover, End}
-use Rattle.chain_work.specs.declared.row.Row.{Row}
+use Rattle.rows.specs.declared.row.Row.{Row}
 use Rattle.chain_work.specs.Records as records
 use Rattle.chain_work.specs.Records.{linksAt, recordAt, recordsFrom, wholeRecords}
-use Rattle.chain_work.specs.Row.{putBack, rowOf}
-use Rattle.chain_work.specs.Step.{After, chainRefusal, chainStepped, judgedTo, startedTo, stateOf, turnedAway, wiredTo}
-use Rattle.chain_work.specs.StepLaws.{step-told}
+use Rattle.rows.specs.Row.{putBack, rowOf}
+use Rattle.rows.specs.Step.{After, chainRefusal, chainStepped, judgedTo, startedTo, stateOf, turnedAway, wiredTo}
+use Rattle.rows.specs.StepLaws.{step-told}
 use Rattle.chain_work.specs.Work.{Ended, Progress, atEnd, turned, worked}
 use Rattle.chip.specs.declared.state.State.{State}
 use Rattle.counts.specs.declared.part.Part.{Part}

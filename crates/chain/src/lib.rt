@@ -1,20 +1,20 @@
 // Parts in a row (paper 02, order 4): the chain's list of part states, lent by the caller, one entry a part, and their memories as one slice of words,
 // each part's after the other. These four functions touch the list; all else is done on a row of states by value.
 ghost use Rattle.chain.specs.Chain.{Runs, Samples};
-ghost use Rattle.chain_work.specs.Row.{putBack, rowOf};
+ghost use Rattle.rows.specs.Row.{putBack, rowOf};
 ghost use mathlib.Core.Path.{_≡_};
 use chain_runs::run::Report;
-use chain_work::row::Row;
 use chip::state::State;
 use fifo::sample::Outcome;
+use rows::row::Row;
 
 fn load(states: &[State]) -> Row
     ensures { λ r. ⌜ r ≡ rowOf (now (states .entry)) ⌝ }
 {
-    let mut row = chain_work::row::power_up(states.len());
+    let mut row = rows::row::power_up(states.len());
     let mut i: usize = 0;
     while i < states.len() {
-        row = chain_work::row::with_state(row, i, states[i]);
+        row = rows::row::with_state(row, i, states[i]);
         i += 1;
     }
     row
@@ -25,7 +25,7 @@ fn store(states: &mut [State], row: Row)
 {
     let mut i: usize = 0;
     while i < states.len() {
-        states[i] = chain_work::row::chosen(row, i, states[i]);
+        states[i] = rows::row::chosen(row, i, states[i]);
         i += 1;
     }
 }

@@ -3,7 +3,7 @@ use Prim.Native.Nat.{ℕ}
 use mathlib.Core.Bool.{false}
 use mathlib.Core.List.{List, []}
 use Rattle.chain_runs.specs.Run.{runOf}
-use Rattle.chain_work.specs.Row.{emptyRow}
+use Rattle.rows.specs.Row.{emptyRow}
 use Rattle.chain_work.specs.Work.{Ended}
 use Rattle.notes.specs.Began.{indexOf}
 use Rattle.notes.specs.Fold.{EndsStrict, started}

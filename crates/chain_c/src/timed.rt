@@ -13,7 +13,7 @@ pub extern "C" fn chain_run(
 ) -> usize
     ensures { λ r. ⌜ RunsFromPowerUp part count (now (trace .entry)) (now (memory .entry)) (now (answers .entry)) r (now (memory .exit)) (now (answers .exit)) ⌝ }
 {
-    let row = chain_work::row::power_up(count);
+    let row = rows::row::power_up(count);
     let mut none = [0u8; 1];
     let ran = chain_runs::run::run(false, part, trace, row, memory, answers, &mut none[..0]);
     ran.index

@@ -3,7 +3,7 @@ use Prim.Native.Nat.{ℕ, _*_}
 use mathlib.Core.Bool.{Bool}
 use mathlib.Core.List.{List}
 use lib.ListN.{length}
-use Rattle.chain_work.specs.declared.row.Row.{Row}
+use Rattle.rows.specs.declared.row.Row.{Row}
 use Rattle.chain_work.specs.declared.work.Ran.{Ran}
 use Rattle.chain_work.specs.Records.{wholeRecords}
 use Rattle.chain_work.specs.Work.{Ended, Progress, ranOf, worked}

@@ -5,9 +5,9 @@ use mathlib.Core.List.{List}
 use mathlib.Core.Path.{_≡_}
 use lib.Dec.{eqb}
 use lib.ListN.{length}
-use Rattle.chain_work.specs.declared.row.Row.{Row}
+use Rattle.rows.specs.declared.row.Row.{Row}
 use Rattle.chain_work.specs.Records.{linksAt}
-use Rattle.chain_work.specs.Step.{After, chainStepped, turnedAway}
+use Rattle.rows.specs.Step.{After, chainStepped, turnedAway}
 use Rattle.fifo.specs.declared.sample.Outcome.{Outcome}
 use Rattle.fifo.specs.declared.sample.Outcome.the-variants.{Refused, Taken}
 use Rattle.chain_runs.specs.declared.sample.Worked.{Worked}

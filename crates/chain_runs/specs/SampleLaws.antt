@@ -8,12 +8,12 @@ use lib.Dec.{eqb}
 use lib.ListN.{getD, length}
 use borrow.Author.Tests.{eq-eqb, eqb-false, eqb-true, ne-eqb}
 use native.Mathlib.Omega.{arith}
-use Rattle.chain_work.specs.declared.row.Row.{Row}
+use Rattle.rows.specs.declared.row.Row.{Row}
 use Rattle.chain_work.specs.declared.work.Ran.{Ran}
 use Rattle.chain_work.specs.Records.{linksAt, wholeRecords}
 use Rattle.chain_work.specs.RecordsLaws.{end-told}
-use Rattle.chain_work.specs.Step.{After, Moving, chainAnswer, chainRefusal, chainStepped, movedTo, took, turnedAway}
-use Rattle.chain_work.specs.StepLaws.{step-still, step-taken}
+use Rattle.rows.specs.Step.{After, Moving, chainAnswer, chainRefusal, chainStepped, movedTo, took, turnedAway}
+use Rattle.rows.specs.StepLaws.{step-still, step-taken}
 use Rattle.chain_work.specs.Work.{Ended, Progress, atEnd, ranOf, turn, worked}
 use Rattle.counts.specs.declared.part.Part.{Part}
 use Rattle.fifo.specs.declared.sample.Outcome.{Outcome}

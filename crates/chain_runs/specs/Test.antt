@@ -2,8 +2,8 @@
 use Prim.Native.Nat.{ℕ, _*_}
 use mathlib.Core.Bool.{Bool, cond, _&&_}
 use lib.Dec.{eqb, leb}
-use Rattle.chain_work.specs.declared.row.Row.{Row}
-use Rattle.chain_work.specs.Step.{passesTo}
+use Rattle.rows.specs.declared.row.Row.{Row}
+use Rattle.rows.specs.Step.{passesTo}
 use Rattle.counts.specs.declared.part.Part.{Part}
 use Rattle.counts.specs.Part.{byPart, depthOf, partOf}
 use Rattle.chain_runs.specs.declared.testing.Verdict.{Verdict}

@@ -8,10 +8,10 @@ use lib.Dec.{eqb, leb}
 use lib.ListN.{length}
 use borrow.Author.Tests.{eq-eqb, eqb-true, le-leb, leb-true, lt-leb, ne-eqb}
 use native.Mathlib.Omega.{arith}
-use Rattle.chain_work.specs.declared.row.Row.{Row}
-use Rattle.chain_work.specs.Fits.{fits, widthsTo}
-use Rattle.chain_work.specs.Step.{passesPart, passesTo, stateOf}
-use Rattle.chain_work.specs.StepLaws.{all-at, all-by, told-fits}
+use Rattle.rows.specs.declared.row.Row.{Row}
+use Rattle.rows.specs.Fits.{fits, widthsTo}
+use Rattle.rows.specs.Step.{passesPart, passesTo, stateOf}
+use Rattle.rows.specs.StepLaws.{all-at, all-by, told-fits}
 use Rattle.chip.specs.State.{passes, widths}
 use Rattle.chip.specs.Widths.{tested-widths}
 use Rattle.counts.specs.Both.{both}

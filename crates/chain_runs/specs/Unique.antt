@@ -3,7 +3,7 @@ use Prim.Native.Nat.{ℕ}
 use mathlib.Core.Bool.{Bool}
 use mathlib.Core.List.{List}
 use mathlib.Core.Path.{_≡_, sym, _∙_}
-use Rattle.chain_work.specs.declared.row.Row.{Row}
+use Rattle.rows.specs.declared.row.Row.{Row}
 use Rattle.chain_work.specs.declared.work.Ran.{Ran}
 use Rattle.notes.specs.Unique as notes
 use Rattle.chain_runs.specs.declared.sample.Worked.{Worked}

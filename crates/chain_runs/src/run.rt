@@ -2,8 +2,8 @@
 ghost use Rattle.chain_runs.specs.Run.{RunsRow, reportOf};
 ghost use mathlib.Core.Path.{_≡_};
 use super::testing::Verdict;
-use chain_work::row::Row;
 use chain_work::work::Ran;
+use rows::row::Row;
 
 // Where a run ended, without the states.
 pub struct Report {

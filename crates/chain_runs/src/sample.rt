@@ -2,8 +2,8 @@
 ghost use Rattle.chain_runs.specs.Sample.{SamplesRow, outcomeBy};
 ghost use mathlib.Core.Path.{_≡_};
 use super::testing::Verdict;
-use chain_work::row::Row;
 use fifo::sample::Outcome;
+use rows::row::Row;
 
 pub struct Worked {
     pub outcome: Outcome,

@@ -3,9 +3,9 @@ ghost use Prim.Native.Nat.{_*_, _≤_};
 ghost use Rattle.chain_runs.specs.Test.{knownTest, several, testOf};
 ghost use Rattle.counts.specs.Part.{depthOf};
 ghost use mathlib.Core.Path.{_≡_};
-use chain_work::row::Row;
 use counts::part::Lookup;
 use counts::part::Part;
+use rows::row::Row;
 
 pub enum Verdict {
     Passed(Part),
@@ -33,7 +33,7 @@ fn test_known(part: Part, row: Row, words: usize, roomy: bool) -> Verdict
 {
     let sized = words == full_length(part, row.count);
     if roomy & sized {
-        if chain_work::judging::pass_test(part, row) {
+        if rows::judging::pass_test(part, row) {
             Verdict::Passed(part)
         } else {
             Verdict::Refused(3)

@@ -1,4 +1,2 @@
-pub mod RowLaws
-pub mod JudgeLaws
 pub mod TurnLaws
 pub mod WorkLaws

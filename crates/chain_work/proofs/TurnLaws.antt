@@ -1,5 +1,5 @@
 -- The parts of a row moved one after the other, in the words of the code.
-use Prim.Native.Nat.{ℕ, zero, suc, _+_, _*_, _-_, _≤_, _<_}
+use Prim.Native.Nat.{ℕ, _+_, _*_, _-_, _≤_, _<_}
 use mathlib.Core.Bool.{Bool, true, false, cond}
 use mathlib.Core.List.{List}
 use mathlib.Core.Path.{_≡_, refl, sym, ap, subst, _∙_}
@@ -19,13 +19,13 @@ use Rattle.links.specs.Wire.{endsOf, wired}
 use Rattle.pins.specs.Answer.{packed}
 use Rattle.pins.specs.declared.answer.Lines.{Lines}
 use Rattle.pins.specs.declared.record.Pins.{Pins}
-use Rattle.chain_work.specs.declared.row.Row.{Row}
-use Rattle.chain_work.specs.MoveLaws.{moved-count, moved-eight, moved-later, moved-length, with-set}
-use Rattle.chain_work.specs.Row.{withState}
-use Rattle.chain_work.specs.Step.{Moved, Moves, Moving, chainAnswer, movedPart, movedTo, oneMoved, shownBy, stateOf, wiredTo}
-use Rattle.chain_work.specs.StepLaws.{Fitting, all-at}
-use Rattle.chain_work.specs.WiringLaws.{seen, wired-now}
-use Rattle.chain_work.proofs.JudgeLaws.{state-at}
+use Rattle.rows.specs.declared.row.Row.{Row}
+use Rattle.rows.specs.MoveLaws.{moved-count, moved-eight, moved-later, moved-length, with-set}
+use Rattle.rows.specs.Row.{withState}
+use Rattle.rows.specs.Step.{Moved, Moves, chainAnswer, movedPart, movedTo, shownBy, stateOf, wiredTo}
+use Rattle.rows.specs.StepLaws.{Fitting, all-at}
+use Rattle.rows.specs.WiringLaws.{wired-now}
+use Rattle.rows.specs.StateLaws.{state-at}
 
 -- the first i parts have moved, and what the part before the next one showed before the sample
 pub record Doing (part : Part) (x : Links) (before : Row) (words : List ℕ) (moving : ℕ) (memory : List ℕ) (row : Row) (earlier : Lines) (i : ℕ) : Type 0 where

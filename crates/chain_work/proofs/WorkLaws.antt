@@ -1,9 +1,9 @@
 -- The work on the records of a chain, in the words of the code: what the calls of one turn gave.
-use Prim.Native.Nat.{ℕ, _+_, _*_, _<_}
+use Prim.Native.Nat.{ℕ, _+_, _<_}
 use mathlib.Core.Bool.{Bool, true, false, cond}
 use mathlib.Core.List.{List}
 use mathlib.Core.Logic.{_⊎_, _≢_, ⊎-elim}
-use mathlib.Core.Path.{_≡_, refl, sym, ap, subst, _∙_}
+use mathlib.Core.Path.{_≡_, refl, sym, ap, _∙_}
 use denote.Enum.Declared.{tagOf}
 use lib.Dec.{eqb}
 use lib.ListN.{length}
@@ -23,13 +23,13 @@ use Rattle.pins.specs.Answer.{putAnswer}
 use Rattle.chain_work.proofs.records.Record.{the-type}
 use Rattle.chain_work.specs.declared.records.Record.{Record}
 use Rattle.chain_work.specs.declared.records.Record.the-variants.{Whole, Leftover, End}
-use Rattle.chain_work.specs.declared.row.Row.{Row}
-use Rattle.chain_work.specs.Fits.{fits}
+use Rattle.rows.specs.declared.row.Row.{Row}
+use Rattle.rows.specs.Fits.{fits}
 use Rattle.chain_work.specs.Records as records
 use Rattle.chain_work.specs.Records.{linksAt, recordAt, wholeRecords}
 use Rattle.chain_work.specs.RecordsLaws.{isWhole, none-whole, whole-below, whole-links}
-use Rattle.chain_work.specs.Step.{After, Moving, chainAnswer, chainRefusal, chainStepped, movedTo, took, turnedAway}
-use Rattle.chain_work.specs.StepLaws.{step-fits, step-length, step-still, step-taken, step-told}
+use Rattle.rows.specs.Step.{After, Moving, chainAnswer, chainRefusal, chainStepped, movedTo, turnedAway}
+use Rattle.rows.specs.StepLaws.{step-fits, step-length, step-still, step-taken, step-told}
 use Rattle.chain_work.specs.Work.{Progress, atEnd, ranOf, turn, turned, worked}
 
 pub no-whole : (r : Record) → (tagOf the-type r ≡ 1) ⊎ (tagOf the-type r ≡ 2) → isWhole r ≡ false

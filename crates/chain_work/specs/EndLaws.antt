@@ -23,8 +23,8 @@ use Rattle.pins.specs.Answer.{putAnswer}
 use Rattle.pins.specs.TraceLaws.{items-split, word-first, word-second}
 use Rattle.chain_work.specs.Records.{linksAt, moreAt, recordsFrom, wholeRecords}
 use Rattle.chain_work.specs.RecordsLaws.{end-told}
-use Rattle.chain_work.specs.Step.{After, chainRefusal, chainStepped}
-use Rattle.chain_work.specs.StepLaws.{step-told}
+use Rattle.rows.specs.Step.{After, chainRefusal, chainStepped}
+use Rattle.rows.specs.StepLaws.{step-told}
 use Rattle.chain_work.specs.Work.{Ended, Progress, atEnd, turn, turned, worked}
 
 -- three bytes in the first or the second of two parts

@@ -1,11 +1,4 @@
-pub mod Row
-pub mod Step
 pub mod Records
-pub mod Work
-pub mod Fits
 pub mod RecordsLaws
-pub mod MoveLaws
-pub mod StepLaws
-pub mod WiringLaws
+pub mod Work
 pub mod EndLaws
-pub mod Unique

@@ -7,11 +7,11 @@ use Rattle.fifo.specs.Sample.{answersAfter, numberOf}
 use Rattle.links.specs.declared.record.Links.{Links}
 use Rattle.notes.specs.Fold as fold
 use Rattle.notes.specs.Fold.{Stepping, Turn, folded}
-use Rattle.chain_work.specs.declared.row.Row.{Row}
+use Rattle.rows.specs.declared.row.Row.{Row}
 use Rattle.chain_work.specs.declared.work.Ran.{Ran}
 use Rattle.chain_work.specs.Records as records
 use Rattle.chain_work.specs.Records.{recordAt, recordsFrom, wholeRecords}
-use Rattle.chain_work.specs.Step.{After, chainStepped}
+use Rattle.rows.specs.Step.{After, chainStepped}
 
 -- a run of a chain, how far it has come and where it ended
 abbrev pub Progress : Type 0

@@ -3,7 +3,7 @@ ghost use Prim.Native.Nat.{_*_, _+_, _-_, _<_, _≤_};
 ghost use Rattle.chain_work.specs.Records as records;
 ghost use Rattle.chain_work.specs.Records.{wholeRecords};
 ghost use Rattle.chain_work.specs.Work.{ranOf, worked};
-ghost use Rattle.chain_work.specs.Fits.{fits};
+ghost use Rattle.rows.specs.Fits.{fits};
 ghost use Rattle.chip.specs.Answer.{linesOf};
 ghost use Rattle.counts.specs.Part.{depthOf};
 ghost use Rattle.links.specs.Wire.{endsOf};
@@ -14,10 +14,10 @@ ghost use Rattle.pins.specs.Answer.{packed, putAnswer};
 ghost use mathlib.Core.Bool.{cond, false, true};
 ghost use mathlib.Core.Path.{_≡_};
 use super::records::Record;
-use super::row::Row;
 use chip::state::State;
 use counts::part::Part;
 use pins::record::Pins;
+use rows::row::Row;
 
 // Where a run ended: the index of the record that it refused, or of the end of the trace, and the number, 0 for none.
 pub struct Ran {
@@ -60,7 +60,7 @@ pub fn work(
             return end_at(index, accepted, ending(record), r);
         };
         let x = links::record::read_links(head, more);
-        let number = super::judging::refusal(part, x, r);
+        let number = rows::judging::refusal(part, x, r);
         if notes::number::is_stop(lenient, number) {
             return end_at(index, accepted, number, r);
         }
@@ -71,9 +71,9 @@ pub fn work(
         let mut i: usize = 0;
         while i < moving {
             let s = r.states[i];
-            let later = r.states[super::judging::place_after(i)];
-            let p = super::judging::wire_part(part, x, count, i, earlier, later);
-            r.states[i] = super::moving::move_part(part, p, s, i * depth(part), memory);
+            let later = r.states[rows::judging::place_after(i)];
+            let p = rows::judging::wire_part(part, x, count, i, earlier, later);
+            r.states[i] = rows::moving::move_part(part, p, s, i * depth(part), memory);
             earlier = chip::answer::lines(part, false, s);
             i += 1;
         }

@@ -5,8 +5,8 @@ use mathlib.Core.List.{List}
 use mathlib.Core.Path.{_≡_, refl, ap, _∙_}
 use native.Mathlib.Omega.{arith}
 use lib.Dec.{eqb}
-use Rattle.chain_work.specs.declared.row.Row.{Row}
-use Rattle.chain_work.specs.Step.{Moving, chainAnswer, chainRefusal, chainStepped, shownBy as linesAt, stateOf, took, turnedAway}
+use Rattle.rows.specs.declared.row.Row.{Row}
+use Rattle.rows.specs.Step.{Moving, chainAnswer, chainRefusal, chainStepped, shownBy as linesAt, stateOf, took, turnedAway}
 use Rattle.chip.specs.Answer.{linesOf}
 use Rattle.chip.specs.State.{widths}
 use Rattle.counts.specs.declared.part.Part.{Part}

@@ -3,9 +3,9 @@
 use Prim.Native.Nat.{ℕ, zero, suc, _^_, _<_}
 use mathlib.Core.Bool.{Bool, cond}
 use mathlib.Core.List.{List, [], _∷_, _++_}
-use Rattle.chain_work.specs.declared.row.Row.{Row}
-use Rattle.chain_work.specs.Row.{emptyRow}
-use Rattle.chain_work.specs.Step.{After, chainStepped, stateOf, wiredTo}
+use Rattle.rows.specs.declared.row.Row.{Row}
+use Rattle.rows.specs.Row.{emptyRow}
+use Rattle.rows.specs.Step.{After, chainStepped, stateOf, wiredTo}
 use Rattle.counts.specs.declared.part.Part.{Part}
 use Rattle.fifo.specs.Sample.{isTaken}
 use Rattle.links.specs.declared.record.Links.{Links}

@@ -8,9 +8,9 @@ use lib.Dec.{eqb}
 use lib.ListN.{getD-replicate, length, length-replicate}
 use borrow.Author.Tests.{eq-eqb, eqb-true}
 use native.Mathlib.Omega.{arith}
-use Rattle.chain_work.specs.declared.row.Row.{Row}
-use Rattle.chain_work.specs.Row.{emptyRow}
-use Rattle.chain_work.specs.Step.{Moving, chainRefusal, chainStepped, movedTo, stateOf, took, turnedAway, wiredTo}
+use Rattle.rows.specs.declared.row.Row.{Row}
+use Rattle.rows.specs.Row.{emptyRow}
+use Rattle.rows.specs.Step.{Moving, chainRefusal, chainStepped, movedTo, stateOf, took, turnedAway, wiredTo}
 use Rattle.chip.specs.declared.state.State.{State}
 use Rattle.chip.specs.Reset.{poweredUp}
 use Rattle.counts.specs.declared.part.Part.{Part}

@@ -4,8 +4,8 @@ use Prim.Native.Nat.{ℕ}
 use mathlib.Core.List.{List, [], _∷_}
 use mathlib.Core.Path.{_≡_, refl}
 use lib.ListN.{replicate}
-use Rattle.chain_work.specs.Row.{emptyRow, withState}
-use Rattle.chain_work.specs.Step.{chainRefusal, chainStepped, judgedTo, movedPart, movedTo, allTo, wiredTo}
+use Rattle.rows.specs.Row.{emptyRow, withState}
+use Rattle.rows.specs.Step.{chainRefusal, chainStepped, judgedTo, movedPart, movedTo, allTo, wiredTo}
 use Rattle.chip.specs.Reset.{poweredUp}
 use Rattle.counts.specs.declared.part.Part.the-variants.{Idt72V255LA as part255}
 use Rattle.links.specs.declared.record.Links.{Links}

@@ -14,8 +14,8 @@ use Rattle.chain.specs.ListLaws.{entryOf, row-at}
 use Rattle.chain.specs.StillLaws.{early, runs-still, sample-still}
 use Rattle.chain_runs.specs.declared.run.Report.{Report}
 use Rattle.chain_work.specs.Records.{linksAt, recordsFrom, wholeRecords}
-use Rattle.chain_work.specs.Row.{rowOf}
-use Rattle.chain_work.specs.Step.{After, stateOf}
+use Rattle.rows.specs.Row.{rowOf}
+use Rattle.rows.specs.Step.{After, stateOf}
 use Rattle.chain_work.specs.Work.{Ended}
 use Rattle.chip.specs.declared.state.State.{State}
 use Rattle.counts.specs.declared.part.Part.{Part}

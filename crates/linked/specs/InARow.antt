@@ -9,7 +9,7 @@ use lib.ListN.{length, take}
 use lib.Seq.{take-append-seam}
 use native.Mathlib.Omega.{arith}
 use Rattle.chain_work.specs.Records.{wholeRecords}
-use Rattle.chain_work.specs.Step.{passesTo, startedTo, stateOf, wiredTo}
+use Rattle.rows.specs.Step.{passesTo, startedTo, stateOf, wiredTo}
 use Rattle.chain_work.specs.Work.{Ended, worked}
 use Rattle.counts.specs.declared.part.Part.{Part}
 use Rattle.counts.specs.Part.{depthOf}

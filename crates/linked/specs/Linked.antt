@@ -6,7 +6,7 @@ use mathlib.Core.List.{[]}
 use mathlib.Core.Logic.{_⊎_, ⊎-elim}
 use mathlib.Core.Path.{_≡_, refl, sym, ap, _∙_}
 use native.Mathlib.Omega.{arith}
-use Rattle.chain_work.specs.Step.{startedTo, stateOf, wiredTo}
+use Rattle.rows.specs.Step.{startedTo, stateOf, wiredTo}
 use Rattle.chip.specs.declared.state.State.{State}
 use Rattle.chip.specs.Reset.{cleared, poweredUp}
 use Rattle.counts.specs.declared.part.Part.{Part}

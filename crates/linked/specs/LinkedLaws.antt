@@ -6,8 +6,8 @@ use mathlib.Core.Logic.{inl, inr, ⊎-elim}
 use mathlib.Core.Path.{_≡_, refl, ap, _∙_}
 use lib.ListN.{getD-replicate, length}
 use native.Mathlib.Omega.{arith}
-use Rattle.chain_work.specs.Row.{emptyRow}
-use Rattle.chain_work.specs.Step.{stateOf, wiredTo}
+use Rattle.rows.specs.Row.{emptyRow}
+use Rattle.rows.specs.Step.{stateOf, wiredTo}
 use Rattle.chip.specs.declared.state.State.{State}
 use Rattle.chip.specs.Advance.{advanced, running, stateAfter}
 use Rattle.chip.specs.Reset.{cleared, masterReset, partialReset, poweredUp}

@@ -7,8 +7,8 @@ use lib.Dec.{eqb}
 use lib.ListN.{length, replicate, take}
 use Rattle.chain.specs.Chain.{ran, sampled}
 use Rattle.chain_work.specs.Records.{linksAt, recordsFrom, wholeRecords}
-use Rattle.chain_work.specs.Row.{putBack, rowOf}
-use Rattle.chain_work.specs.Step.{After, stateOf}
+use Rattle.rows.specs.Row.{putBack, rowOf}
+use Rattle.rows.specs.Step.{After, stateOf}
 use Rattle.chain_work.specs.Work.{Ended}
 use Rattle.chip.specs.declared.state.State.{State}
 use Rattle.chip.specs.Reset.{poweredUp}

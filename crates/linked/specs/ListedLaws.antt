@@ -14,10 +14,10 @@ use Rattle.chain_runs.specs.declared.testing.Verdict.the-variants.{Passed}
 use Rattle.chain_runs.specs.Sample.{rowSampled}
 use Rattle.chain_runs.specs.SampleLaws.{sample-other, sample-steps}
 use Rattle.chain_runs.specs.Test.{knownTest, several, testOf}
-use Rattle.chain_work.specs.MoveLaws.{moved-later}
+use Rattle.rows.specs.MoveLaws.{moved-later}
 use Rattle.chain_work.specs.Records.{linksAt}
-use Rattle.chain_work.specs.Row.{emptyRow, putBack}
-use Rattle.chain_work.specs.Step.{After, chainRefusal, chainStepped, stateOf, turnedAway}
+use Rattle.rows.specs.Row.{emptyRow, putBack}
+use Rattle.rows.specs.Step.{After, chainRefusal, chainStepped, stateOf, turnedAway}
 use Rattle.chip.specs.Reset.{poweredUp}
 use Rattle.counts.specs.declared.part.Part.{Part}
 use Rattle.counts.specs.Either.{either}

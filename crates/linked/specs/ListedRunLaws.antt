@@ -12,8 +12,8 @@ use Rattle.chain_runs.specs.Run.{runOf}
 use Rattle.chain_runs.specs.RunLaws.{run-passed, run-refused}
 use Rattle.chain_runs.specs.Test.{knownTest, testOf}
 use Rattle.chain_work.specs.Records.{recordsFrom, wholeRecords}
-use Rattle.chain_work.specs.Step.{stateOf}
-use Rattle.chain_work.specs.StepLaws.{step-count}
+use Rattle.rows.specs.Step.{stateOf}
+use Rattle.rows.specs.StepLaws.{step-count}
 use Rattle.chain_work.specs.Work.{Ended, Progress, worked}
 use Rattle.counts.specs.Both.{both}
 use Rattle.counts.specs.declared.part.Part.{Part}

@@ -7,9 +7,9 @@ use lib.Seq.{drop-drop, getD-set-other, getD-set-same}
 use borrow.Author.Tests.{lt-ltb}
 use native.Mathlib.Nat.{suc-mul}
 use native.Mathlib.Omega.{arith}
-use Rattle.chain_work.specs.declared.row.Row.{Row}
-use Rattle.chain_work.specs.Row.{withState}
-use Rattle.chain_work.specs.Step.{Moving, movedPart, movedTo, stateOf, wiredTo}
+use Rattle.rows.specs.declared.row.Row.{Row}
+use Rattle.rows.specs.Row.{withState}
+use Rattle.rows.specs.Step.{Moving, movedPart, movedTo, stateOf, wiredTo}
 use Rattle.chip.specs.declared.state.State.{State}
 use Rattle.chip.specs.Reset.{poweredUp}
 use Rattle.counts.specs.declared.part.Part.{Part}

@@ -5,9 +5,9 @@ use mathlib.Core.Path.{_≡_, refl, sym}
 use lib.Dec.{eqb, ltb}
 use borrow.Author.Tests.{eqb-false, eqb-true}
 use native.Mathlib.Omega.{arith}
-use Rattle.chain_work.specs.declared.row.Row.{Row}
-use Rattle.chain_work.specs.Step.{chainRefusal, judgedTo, startedTo, stateOf, wiredTo}
-use Rattle.chain_work.specs.StepLaws.{all-at}
+use Rattle.rows.specs.declared.row.Row.{Row}
+use Rattle.rows.specs.Step.{chainRefusal, judgedTo, startedTo, stateOf, wiredTo}
+use Rattle.rows.specs.StepLaws.{all-at}
 use Rattle.counts.specs.declared.part.Part.{Part}
 use Rattle.counts.specs.Both.{both}
 use Rattle.links.specs.declared.record.Links.{Links}

@@ -8,9 +8,9 @@ use mathlib.Core.Path.{_≡_, refl, sym, ap, _∙_}
 use lib.Dec.{eqb}
 use borrow.Author.Tests.{eqb-true}
 use native.Mathlib.Omega.{arith}
-use Rattle.chain_work.specs.declared.row.Row.{Row}
-use Rattle.chain_work.specs.Step.{Moving, chainRefusal, chainStepped, judgedTo, passesPart, passesTo, startedTo, stateOf, took, turnedAway, wiredTo}
-use Rattle.chain_work.specs.StepLaws.{all-by}
+use Rattle.rows.specs.declared.row.Row.{Row}
+use Rattle.rows.specs.Step.{Moving, chainRefusal, chainStepped, judgedTo, passesPart, passesTo, startedTo, stateOf, took, turnedAway, wiredTo}
+use Rattle.rows.specs.StepLaws.{all-by}
 use Rattle.chip.specs.declared.state.State.{State}
 use Rattle.chip.specs.Reset.{cleared, poweredUp}
 use Rattle.chip.specs.ResetLaws.{isFwft}

@@ -12,7 +12,7 @@ use Rattle.chain_work.specs.declared.records.Record.{Record}
 use Rattle.chain_work.specs.declared.records.Record.the-variants.{Whole, Leftover, End}
 use Rattle.chain_work.specs.Records as records
 use Rattle.chain_work.specs.Records.{linksAt, recordAt, recordsFrom, wholeRecords}
-use Rattle.chain_work.specs.Step.{chainStepped}
+use Rattle.rows.specs.Step.{chainStepped}
 use Rattle.chain_work.specs.Work.{Ended, atEnd, turned, worked}
 use Rattle.counts.specs.declared.part.Part.{Part}
 use Rattle.fifo.specs.Sample.{numberOf}

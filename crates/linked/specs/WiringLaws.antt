@@ -7,8 +7,8 @@ use borrow.Author.Tests.{ltb-true, ne-eqb}
 use native.Mathlib.Nat.{mod-eq-of-lt}
 use native.Mathlib.Numerals.{add-one}
 use native.Mathlib.Omega.{arith}
-use Rattle.chain_work.specs.declared.row.Row.{Row}
-use Rattle.chain_work.specs.Step.{shownBy, stateOf, wiredTo}
+use Rattle.rows.specs.declared.row.Row.{Row}
+use Rattle.rows.specs.Step.{shownBy, stateOf, wiredTo}
 use Rattle.chip.specs.declared.state.State.{State}
 use Rattle.chip.specs.Answer.{linesOf}
 use Rattle.chip.specs.State.{widths}

@@ -1,5 +1,4 @@
 // The trace worked chunk by chunk.
-use chain_work::row::Row;
 use chain_work::work::Ran;
 use input::chunks;
 use input::chunks::RECORDS;
@@ -7,6 +6,7 @@ use lines::records;
 use lines::records::Layout;
 use lines::tally;
 use lines::tally::Tally;
+use rows::row::Row;
 
 const CHUNK: usize = RECORDS * 7;
 
@@ -30,7 +30,7 @@ fn work_chunks(
     room: &mut [u8],
 ) -> Tally {
     let mut progress = Progress {
-        row: chain_work::row::power_up(parts),
+        row: rows::row::power_up(parts),
         tally: tally::start(),
     };
     // No contract says that the input ends, so a count of the chunks that are left does.

@@ -2,6 +2,8 @@
 
 use std::time::Duration;
 
+use crate::chain::onlooker::WatchedChain;
+use crate::chain::{self, LENGTHS};
 use crate::corners::Corners;
 use crate::library::{Difference, Library};
 use crate::pair::onlooker::Watched;
@@ -86,6 +88,15 @@ pub fn pair(launch: &Launch, amount: Amount, seed: u64, corners: &mut Corners) -
     counterexample
 }
 
+pub fn chain(launch: &Launch, amount: usize, seed: u64, corners: &mut Corners) -> Option<Counterexample> {
+    let mut random = Random::new(seed);
+    let traces = chain::traffic::jobs(amount, &mut random).into_iter().map(|job| {
+        let (input, lenient) = chain::traffic::generated(&job, random.draw());
+        (if job.far() { input } else { damaged(input, &mut random) }, lenient)
+    });
+    differing::<WatchedChain>(launch, odd_chains().chain(traces), corners)
+}
+
 /// The first input on which the program prints other lines than the reference does. Some inputs are for a lenient run.
 fn differing<T: Traced>(
     launch: &Launch,
@@ -97,19 +108,41 @@ fn differing<T: Traced>(
     differing.map(|(input, lenient)| smallest_input::<T>(launch, input, lenient))
 }
 
+/// Inputs with no part, or none that there is.
+const NO_PART: [&[u8]; 6] = [&[], &[0], &[0xFF], &[0, 0], &[0xFF, 0], &[1, 0xFF, 0, 0, 0, 0]];
+
 /// Inputs that hold no trace, or none to its end, strict and lenient by turns. They are odd in number for each part, so that
 /// what is strict for the one part is lenient for the other.
 fn odd_inputs<T: Traced>() -> impl Iterator<Item = (Vec<u8>, bool)> {
-    let mut inputs = vec![vec![], vec![0], vec![0xFF], vec![0, 0], vec![0xFF, 0], vec![1, 0xFF, 0, 0, 0, 0]];
+    let mut inputs = NO_PART.map(<[u8]>::to_vec).to_vec();
     for part in [[0, 0xFF], [1, 9]] {
         let [reset, still] = [[0x4D, 0x98, 0, 0], [0xCF, 0x98, 0, 0]].map(|record| record.repeat(T::BYTES / 4));
-        inputs.push([&part[..], &still[..], &reset[..]].concat());
-        for left_over in 0..T::BYTES {
-            inputs.push([&part[..], &reset[..left_over]].concat());
-            inputs.push([&part[..], &reset[..], &reset[..left_over]].concat());
-        }
+        inputs.extend(cut_short(&part, &reset, &still));
     }
     inputs.into_iter().zip([false, true].into_iter().cycle())
+}
+
+/// The same for the chain, also with no number of parts, or one out of bounds.
+fn odd_chains() -> impl Iterator<Item = (Vec<u8>, bool)> {
+    let mut inputs = NO_PART.map(<[u8]>::to_vec).to_vec();
+    let reset = [0x4D, 0xD8, 0, 0, 0, 0xFF, 0xFF];
+    let still = [0xCF, 0x98, 0, 0, 0, 0xFF, 0xFF];
+    for (part, length) in [([0, 0xFF], *LENGTHS.start()), ([1, 9], *LENGTHS.end())] {
+        inputs.push(part.to_vec());
+        inputs.extend([0, 1, 9, 16, 0xFF].map(|length| [&part[..], &[length], &reset].concat()));
+        inputs.extend(cut_short(&[&part[..], &[length as u8]].concat(), &reset, &still));
+    }
+    inputs.into_iter().zip([false, true].into_iter().cycle())
+}
+
+/// A sample before the reset, and every number of bytes too few for a sample, after a reset and after nothing.
+fn cut_short(head: &[u8], reset: &[u8], still: &[u8]) -> Vec<Vec<u8>> {
+    let mut inputs = vec![[head, still, reset].concat()];
+    for left_over in 0..reset.len() {
+        inputs.push([head, &reset[..left_over]].concat());
+        inputs.push([head, reset, &reset[..left_over]].concat());
+    }
+    inputs
 }
 
 /// Every third input with one bit turned over, one byte too few or too many, or the end lost.
@@ -129,9 +162,9 @@ fn damaged(mut input: Vec<u8>, random: &mut Random) -> Vec<u8> {
 
 fn smallest_input<T: Traced>(launch: &Launch, input: Vec<u8>, lenient: bool) -> Counterexample {
     let told = |input: &[u8]| expected::<T>(input, lenient, &mut Corners::default());
-    let (part, samples) = input.split_at(input.len().min(2));
+    let (head, samples) = input.split_at(input.len().min(T::HEAD));
     let samples: Vec<&[u8]> = samples.chunks(T::BYTES).collect();
-    let whole = |samples: &[&[u8]]| [part, &samples.concat()].concat();
+    let whole = |samples: &[&[u8]]| [head, &samples.concat()].concat();
     let first = first_difference(&told(&input), &printed(launch, &input, lenient));
     let cut = samples[..samples.len().min(first + 1)].to_vec();
     let differs = |samples: &[&[u8]]| told(&whole(samples)) != printed(launch, &whole(samples), lenient);

@@ -18,6 +18,7 @@ pub struct Corners {
     counts: Vec<[u64; COLUMNS]>,
     pub samples: u64,
     pub pair_samples: u64,
+    pub chain_samples: u64,
     /// The last sample was a refused one in which a clock would have risen.
     pub refused_rise: bool,
     /// The last sample, if it was refused 12.
@@ -50,6 +51,7 @@ impl Default for Corners {
             counts,
             samples: 0,
             pair_samples: 0,
+            chain_samples: 0,
             refused_rise: false,
             refused_unsettled: None,
             just_seen: false,
@@ -77,6 +79,7 @@ impl Corners {
     pub fn add(&mut self, others: &Corners) {
         self.samples += others.samples;
         self.pair_samples += others.pair_samples;
+        self.chain_samples += others.chain_samples;
         for (counts, theirs) in self.counts.iter_mut().zip(&others.counts) {
             for (count, more) in counts.iter_mut().zip(theirs) {
                 *count += more;

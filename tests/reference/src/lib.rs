@@ -1,11 +1,12 @@
 //! A second model of the FIFOs, which shares neither code nor shape with the proved one: the counts have no width, no
 //! stage is carried, and whatever a side sees is looked up in the history of rises since the reset.
 //!
-//! The model: `part`, `pins`, `history`, `offsets`, `fall`, `refusals`, `model`, and two of it side by side, `pair`. What it
-//! is tried on: `random`, `scenes`, `steering`, `generator`, `plans`, `trace`; and what of that has been come through:
-//! `corners`, `watch`. The others that it is compared with: `program`, `library`, `hostile`, `compare`, `shrink`. And
+//! The model: `part`, `pins`, `history`, `offsets`, `fall`, `refusals`, `model`; two of it side by side, `pair`; some in a row,
+//! `chain`. What it is tried on: `random`, `scenes`, `steering`, `generator`, `plans`, `trace`; and what of that has been come
+//! through: `corners`, `watch`. The others that it is compared with: `program`, `library`, `hostile`, `compare`, `shrink`. And
 //! `handed`, for states that no history leads to: a small model on the state's own fields, which `runs` is held to.
 
+pub mod chain;
 pub mod compare;
 pub mod corners;
 pub mod fall;

@@ -1,5 +1,5 @@
 //! Tries the built libraries and the trace programs against the reference:
-//! reference SEED AMOUNT NATIVE TRACE TRACE-PAIR DRIVER RUN-DRIVER.
+//! reference SEED AMOUNT NATIVE TRACE TRACE-PAIR TRACE-CHAIN DRIVER RUN-DRIVER.
 //! A counterexample is also left next to the driver, as an input of its trace program.
 
 use std::env;
@@ -24,6 +24,7 @@ struct Settings {
     amount: usize,
     trace: Launch,
     trace_pair: Launch,
+    trace_chain: Launch,
     driver: Launch,
     run_driver: Launch,
 }
@@ -42,8 +43,9 @@ fn settings() -> Option<Settings> {
     };
     let launch = |program: &String| Launch { native: native.clone(), program: program.clone() };
     let programs: Vec<Launch> = programs.iter().map(launch).collect();
-    let [trace, trace_pair, driver, run_driver] = programs.try_into().ok()?;
-    Some(Settings { seed: seed.parse().ok()?, amount: amount.parse().ok()?, trace, trace_pair, driver, run_driver })
+    let [trace, trace_pair, trace_chain, driver, run_driver] = programs.try_into().ok()?;
+    let (seed, amount) = (seed.parse().ok()?, amount.parse().ok()?);
+    Some(Settings { seed, amount, trace, trace_pair, trace_chain, driver, run_driver })
 }
 
 fn try_library(settings: &Settings, seed: u64) -> (Finding, Tally) {
@@ -100,6 +102,12 @@ fn try_pair(settings: &Settings, seed: u64) -> Finding {
     finding
 }
 
+fn try_chain(settings: &Settings, seed: u64) -> Finding {
+    let mut finding = Finding::default();
+    finding.wrong = compare::chain(&settings.trace_chain, settings.amount, seed, &mut finding.corners);
+    finding
+}
+
 /// What was tried beside whole traces.
 struct Tried {
     hostile: Tally,
@@ -119,17 +127,18 @@ impl Tried {
     }
 }
 
-fn try_all(settings: &Settings) -> ([Finding; 5], Tried) {
+fn try_all(settings: &Settings) -> ([Finding; 6], Tried) {
     let mut random = Random::new(settings.seed);
-    let [library_seed, program_seed, handed_seed, runs_seed, pair_seed] = [(); 5].map(|()| random.draw());
+    let [library_seed, program_seed, handed_seed, runs_seed, pair_seed, chain_seed] = [(); 6].map(|()| random.draw());
     thread::scope(|scope| {
         let library = scope.spawn(|| try_library(settings, library_seed));
         let program = try_program(settings, program_seed);
         let pair = try_pair(settings, pair_seed);
+        let chain = try_chain(settings, chain_seed);
         let (by_handed, handed) = try_handed(settings, handed_seed);
         let (by_runs, runs) = try_runs(settings, runs_seed);
         let (by_library, hostile) = library.join().expect("the comparison with the library ends");
-        ([by_library, program, pair, by_handed, by_runs], Tried { hostile, handed, runs })
+        ([by_library, program, pair, chain, by_handed, by_runs], Tried { hostile, handed, runs })
     })
 }
 
@@ -139,7 +148,7 @@ fn report(corners: &Corners, tried: &Tried, wrong: &[Counterexample], seconds: u
     println!("hostile calls by number: {:?}", hostile.numbers);
     println!("damaged states: {} pass 3, {} do not", hostile.spelled, hostile.unspelled);
     println!("calls on states never reached, by number: {:?}", tried.handed);
-    println!("pair: {} samples", corners.pair_samples);
+    println!("pair: {} samples, chain: {} samples", corners.pair_samples, corners.chain_samples);
     for counterexample in wrong {
         println!("DIFFERENCE {}", counterexample.words);
     }
@@ -152,7 +161,7 @@ fn report(corners: &Corners, tried: &Tried, wrong: &[Counterexample], seconds: u
 
 fn main() -> ExitCode {
     let Some(settings) = settings() else {
-        eprintln!("usage: reference SEED AMOUNT NATIVE TRACE TRACE-PAIR DRIVER RUN-DRIVER");
+        eprintln!("usage: reference SEED AMOUNT NATIVE TRACE TRACE-PAIR TRACE-CHAIN DRIVER RUN-DRIVER");
         return ExitCode::FAILURE;
     };
     let start = Instant::now();

@@ -136,6 +136,11 @@ impl Model {
         }
     }
 
+    /// What Q shows where it is driven: an offset, or the output register.
+    pub fn shown(&self) -> u32 {
+        self.offsets.shown.map_or(self.output, |offset| offset as u32)
+    }
+
     /// The rise after the first that took a count from after the retransmit has come exactly when the second stage is
     /// from after it.
     pub fn retransmit_seen(&self) -> bool {
@@ -158,7 +163,6 @@ impl Model {
 
     fn answer(&self, pins: Pins) -> u32 {
         let fall_through = self.mode == Mode::FallThrough;
-        let shown = self.offsets.shown.map_or(self.output, |offset| offset as u32);
         let flags = [
             self.full() == fall_through,
             self.ready() != fall_through,
@@ -166,6 +170,6 @@ impl Model {
             self.reads.latest().almost,
             self.writes.latest().almost,
         ];
-        pins.answer(flags, shown)
+        pins.answer(flags, self.shown())
     }
 }

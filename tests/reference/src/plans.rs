@@ -45,8 +45,8 @@ pub fn jobs(amount: Amount, random: &mut Random) -> Vec<Job> {
     jobs
 }
 
-/// Every third trace is legal throughout.
-fn spoiled(index: usize, random: &mut Random) -> u64 {
+/// One in how many samples is meant to be refused. Every third trace is legal throughout.
+pub fn spoiled(index: usize, random: &mut Random) -> u64 {
     if index.is_multiple_of(3) {
         0
     } else {

@@ -45,11 +45,14 @@ pub fn printed(launch: &Launch, input: &[u8], lenient: bool) -> String {
 }
 
 /// What a trace program runs, by the reference.
-pub trait Traced {
+pub trait Traced: Sized {
+    /// The bytes before the first sample.
+    const HEAD: usize = PART_NUMBER;
     /// The bytes of a sample.
     const BYTES: usize;
     const ENDS: Ends;
-    fn power_up(part: Part) -> Self;
+    /// By what there is between the part number and the first sample, or the number under which that is refused.
+    fn power_up(part: Part, rest: &[u8], corners: &mut Corners) -> Result<Self, u32>;
     /// What the line of a sample says after its index, or the number under which the sample is refused.
     fn line(&mut self, sample: &[u8], corners: &mut Corners) -> Result<String, u32>;
 }
@@ -67,20 +70,32 @@ pub struct Ends {
     pub left_over: &'static [Corner],
 }
 
+/// The bytes of a part number.
+const PART_NUMBER: usize = 2;
+
 fn part_of(input: &[u8]) -> Option<Part> {
-    let number = u16::from_be_bytes(input.get(..2)?.try_into().ok()?);
+    let number = u16::from_be_bytes(input.get(..PART_NUMBER)?.try_into().ok()?);
     PARTS.into_iter().find(|part| part.number == number)
+}
+
+/// What is to be run on the rest of an input, or the number under which the input is refused.
+fn begun<'a, T: Traced>(input: &'a [u8], corners: &mut Corners) -> Result<(T, &'a [u8]), u32> {
+    let Some(part) = part_of(input) else {
+        corners.note_input(if input.len() < PART_NUMBER { T::ENDS.no_part } else { T::ENDS.unknown_part });
+        return Err(1);
+    };
+    let (head, samples) = input.split_at(input.len().min(T::HEAD));
+    Ok((T::power_up(part, &head[PART_NUMBER..], corners)?, samples))
 }
 
 /// The lines that "Bench figures" asks for, by the reference.
 pub fn expected<T: Traced>(input: &[u8], lenient: bool, corners: &mut Corners) -> String {
-    let Some(part) = part_of(input) else {
-        corners.note_input(if input.len() < 2 { T::ENDS.no_part } else { T::ENDS.unknown_part });
-        return "end 0 1\n".to_string();
+    let (mut traced, samples): (T, _) = match begun(input, corners) {
+        Ok(begun) => begun,
+        Err(number) => return format!("end 0 {number}\n"),
     };
-    let samples = input[2..].chunks_exact(T::BYTES);
+    let samples = samples.chunks_exact(T::BYTES);
     let left_over = samples.remainder().len();
-    let mut traced = T::power_up(part);
     corners.begin_trace();
     let (mut lines, mut taken, mut end) = (String::new(), 0, 0);
     for (index, sample) in samples.clone().enumerate() {
@@ -144,8 +159,8 @@ impl Traced for Single {
         left_over: &[Corner::LeftOver; 3],
     };
 
-    fn power_up(part: Part) -> Single {
-        Single { model: Model::power_up(part), memory: vec![0; part.depth as usize] }
+    fn power_up(part: Part, _: &[u8], _: &mut Corners) -> Result<Single, u32> {
+        Ok(Single { model: Model::power_up(part), memory: vec![0; part.depth as usize] })
     }
 
     fn line(&mut self, sample: &[u8], corners: &mut Corners) -> Result<String, u32> {

@@ -48,10 +48,10 @@ use denote.Triple.Walked.{says, Stays, stay-dropped, stay-none, gave-slice, walk
 use denote.Exit.{yes}
 use Rattle.chip.specs.declared.state.State.{State}
 use Rattle.chip.proofs.state.State as R
-use Rattle.chain_work.specs.declared.row.Row.{Row}
-use Rattle.chain_work.specs.Row.{putBack, rowOf}
-use Rattle.chain_work.proofs.row.Row as S
-use Rattle.chain_work.proofs.row.Row.Laws as S′
+use Rattle.rows.specs.declared.row.Row.{Row}
+use Rattle.rows.specs.Row.{putBack, rowOf}
+use Rattle.rows.proofs.row.Row as S
+use Rattle.rows.proofs.row.Row.Laws as S′
 use Rattle.fifo.specs.declared.sample.Outcome.{Outcome}
 use Rattle.fifo.proofs.sample.Outcome as O
 use Rattle.fifo.proofs.sample.Outcome.Laws as O′

@@ -37,8 +37,8 @@ impl Traced for Watched {
         ],
     };
 
-    fn power_up(part: Part) -> Watched {
-        Watched::power_up(part)
+    fn power_up(part: Part, _: &[u8], _: &mut Corners) -> Result<Watched, u32> {
+        Ok(Watched::power_up(part))
     }
 
     fn line(&mut self, sample: &[u8], corners: &mut Corners) -> Result<String, u32> {

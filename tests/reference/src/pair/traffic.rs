@@ -12,8 +12,8 @@ use crate::random::Random;
 use crate::refusals::data_asked;
 use crate::steering;
 
-/// Whether the user asks for a write or a read only while the composite flag allows it, the closed loop, or whatever it
-/// shows, the open one.
+/// Whether the user asks for a write or a read only while the flag for it (the composite one, of a pair) allows it, the closed
+/// loop, or whatever it shows, the open one.
 #[derive(Clone, Copy, PartialEq, Eq, Debug)]
 pub enum User {
     Waiting,
@@ -98,10 +98,10 @@ pub fn jobs(amount: Amount, random: &mut Random) -> Vec<(Job, User)> {
 }
 
 /// A sample, and the number under which it is refused.
-type Told = ([u32; 2], Option<u32>);
+pub type Told<T> = (T, Option<u32>);
 
 /// A waiting user never has the halves apart, which is seen to after each sample.
-fn played(job: Job, mut traffic: Traffic, corners: &mut Corners) -> Vec<Told> {
+fn played(job: Job, mut traffic: Traffic, corners: &mut Corners) -> Vec<Told<[u32; 2]>> {
     let mut watched = Watched::power_up(job.part);
     let mut told = Vec::with_capacity(job.records);
     for _ in 0..job.records {
@@ -116,7 +116,7 @@ fn played(job: Job, mut traffic: Traffic, corners: &mut Corners) -> Vec<Told> {
 
 /// For a strict run, which is to end at a number of any kind and not at once: the samples refused before the first of
 /// that number are left out.
-fn for_strict_run(told: Vec<Told>, random: &mut Random) -> Vec<Told> {
+pub fn for_strict_run<T: Copy>(told: Vec<Told<T>>, random: &mut Random) -> Vec<Told<T>> {
     let numbers: BTreeSet<u32> = told.iter().filter_map(|&(_, number)| number).collect();
     if numbers.is_empty() {
         return told;

@@ -3,7 +3,7 @@ use mathlib.Core.Bool.{false}
 use mathlib.Core.List.{[]}
 use borrow.Author.Needs.{needs}
 use Rattle.chain_runs.specs.Run.{runOf}
-use Rattle.chain_work.specs.declared.row.Row.{Row}
+use Rattle.rows.specs.declared.row.Row.{Row}
 use Rattle.chain_work.specs.declared.work.Ran.{Ran}
 use Rattle.notes.specs.Began.{began}
 use Rattle.notes.specs.Fold.{started}

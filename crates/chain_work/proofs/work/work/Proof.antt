@@ -6,7 +6,7 @@ use native.Mathlib.Omega.{arith}
 use Rattle.notes.specs.Fold.{started}
 use Rattle.chain_work.specs.Records.{wholeRecords}
 use Rattle.chain_work.specs.RecordsLaws.{whole-below}
-use Rattle.chain_work.specs.StepLaws.{fits-told}
+use Rattle.rows.specs.StepLaws.{fits-told}
 use Rattle.chain_work.proofs.TurnLaws.{Doing, all-moved, answer-now, base-within, below, doing, eight, moved-now, moving-most, same-words, wide-at, wired-at}
 use Rattle.chain_work.proofs.WorkLaws.{Going, ended-now, going, no-whole, stopped-now, turned-now}
 use Rattle.chain_work.proofs.work.work.Statement.{statement}

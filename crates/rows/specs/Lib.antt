@@ -1,0 +1,8 @@
+pub mod Row
+pub mod Step
+pub mod StateLaws
+pub mod Fits
+pub mod MoveLaws
+pub mod StepLaws
+pub mod WiringLaws
+pub mod Unique
