@@ -10,7 +10,7 @@ use Rattle.chain_work.specs.Records.{wholeRecords}
 use Rattle.chain_work.specs.Work.{Progress, worked}
 use Rattle.counts.specs.Both.{both}
 use Rattle.counts.specs.declared.part.Part.{Part}
-use Rattle.notes.specs.Fold.{ended, roomy}
+use Rattle.notes.specs.Fold.{ended}
 use Rattle.chain_runs.specs.declared.testing.Verdict.{Verdict}
 use Rattle.chain_runs.specs.declared.testing.Verdict.the-variants.{Passed, Refused}
 use Rattle.chain_runs.specs.Run.{roomyFor, runOf}

@@ -1,5 +1,5 @@
 -- Order 4: a run over one record is a sample.
-use Prim.Native.Nat.{ℕ, zero, suc, _+_, _*_, _/_, _%_, _^_, _≤_, _<_}
+use Prim.Native.Nat.{ℕ, _^_, _<_}
 use mathlib.Core.Bool.{Bool, true, false, not, cond}
 use mathlib.Core.List.{List, [], _∷_}
 use mathlib.Core.Logic.{_≢_}
@@ -21,7 +21,7 @@ use Rattle.fifo.specs.declared.sample.Outcome.the-variants.{Refused, Taken}
 use Rattle.fifo.specs.Sample.{numberOf}
 use Rattle.links.specs.declared.record.Links.{Links}
 use Rattle.notes.specs.Fold.{Ends, ended, folded, noted, started, stops}
-use Rattle.pins.specs.Answer.{packed, putAnswer}
+use Rattle.pins.specs.Answer.{putAnswer}
 use Rattle.pins.specs.Laws.{laid}
 use Rattle.pins.specs.Trace.{itemsFrom, joined}
 use Rattle.chain_runs.specs.declared.sample.Worked.{Worked}

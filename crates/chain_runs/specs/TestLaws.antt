@@ -1,15 +1,15 @@
 -- What is turned away before any record is looked at, in the table's order. Part numbers and depths stand in plain figures, so that a definition
 -- that says another is refused here.
 use Prim.Native.Nat.{ℕ, _*_, _≤_, _<_}
-use mathlib.Core.Bool.{Bool, true, false, cond, _&&_, and-false}
+use mathlib.Core.Bool.{Bool, true, false, cond, and-false}
 use mathlib.Core.Logic.{_≢_}
-use mathlib.Core.Path.{_≡_, refl, sym, ap, subst, _∙_}
+use mathlib.Core.Path.{_≡_, refl, sym, ap, _∙_}
 use lib.Dec.{eqb, leb}
 use lib.ListN.{length}
 use borrow.Author.Tests.{eq-eqb, eqb-true, le-leb, leb-true, lt-leb, ne-eqb}
 use native.Mathlib.Omega.{arith}
 use Rattle.rows.specs.declared.row.Row.{Row}
-use Rattle.rows.specs.Fits.{fits, widthsTo}
+use Rattle.rows.specs.Relied.{fits, widthsTo}
 use Rattle.rows.specs.Step.{passesPart, passesTo, stateOf}
 use Rattle.rows.specs.StepLaws.{all-at, all-by, told-fits}
 use Rattle.chip.specs.State.{passes, widths}
@@ -20,7 +20,6 @@ use Rattle.counts.specs.declared.part.Lookup.the-variants.{Known, Unknown}
 use Rattle.counts.specs.declared.part.Part.{Part}
 use Rattle.counts.specs.Part.{byPart, depthOf, partOf}
 use Rattle.fifo.specs.NumberLaws.{askedBy, known, same-depth, wordsIn}
-use Rattle.chain_runs.specs.declared.testing.Verdict.{Verdict}
 use Rattle.chain_runs.specs.declared.testing.Verdict.the-variants.{Passed, Refused}
 use Rattle.chain_runs.specs.Test.{knownTest, several, testOf}
 

@@ -24,7 +24,7 @@ use Rattle.chain_work.proofs.records.Record.{the-type}
 use Rattle.chain_work.specs.declared.records.Record.{Record}
 use Rattle.chain_work.specs.declared.records.Record.the-variants.{Whole, Leftover, End}
 use Rattle.rows.specs.declared.row.Row.{Row}
-use Rattle.rows.specs.Fits.{fits}
+use Rattle.rows.specs.Relied.{fits}
 use Rattle.chain_work.specs.Records as records
 use Rattle.chain_work.specs.Records.{linksAt, recordAt, wholeRecords}
 use Rattle.chain_work.specs.RecordsLaws.{isWhole, none-whole, whole-below, whole-links}

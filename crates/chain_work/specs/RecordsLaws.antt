@@ -1,19 +1,18 @@
--- Order 4, on bytes: which index has a record, and the records of a trace in two parts.
-use Prim.Native.Nat.{ℕ, _+_, _*_, _≤_, _<_, _%_}
+-- Order 4, on bytes: which index has a record, and its seven bytes in figures.
+use Prim.Native.Nat.{ℕ, _*_, _≤_, _<_, _%_, _+_}
 use mathlib.Core.Bool.{Bool, true, false, cond}
-use mathlib.Core.List.{List, _++_}
+use mathlib.Core.List.{List, [], _∷_}
 use mathlib.Core.Path.{_≡_, refl, sym, ap, _∙_}
 use lib.Dec.{eqb, ltb}
 use lib.ListN.{length}
 use borrow.Author.Tests.{ltb-false, ltb-true}
 use native.Mathlib.Omega.{arith}
-use Rattle.links.specs.declared.record.Links.{Links}
 use Rattle.links.specs.Record.{linksOf}
 use Rattle.pins.specs.Trace.{numberAt, wordAt}
-use Rattle.pins.specs.TraceLaws.{items-split, past-all, standing-number, standing-whole, word-first, word-second}
+use Rattle.pins.specs.TraceLaws.{past-all, standing-number, standing-whole}
 use Rattle.chain_work.specs.declared.records.Record.{Record}
 use Rattle.chain_work.specs.declared.records.Record.the-variants.{Whole, Leftover, End}
-use Rattle.chain_work.specs.Records.{Reads, linksAt, moreAt, numberOf, recordAt, recordsFrom, wholeRecords}
+use Rattle.chain_work.specs.Records.{Reads, linksAt, moreAt, numberOf, recordAt, wholeRecords}
 
 abbrev pub isWhole : Record → Bool
 isWhole (Whole head more) = true
@@ -56,3 +55,9 @@ end-told trace = number-told trace (wholeRecords trace) ∙ past-all 7 (length t
 -- What counts as an answer proved: two records that meet the promise are the same.
 pub record-unique : (trace : List ℕ) (index : ℕ) (a b : Record) → Reads trace index a → Reads trace index b → a ≡ b
 record-unique trace index a b f g = f .result ∙ sym (g .result)
+
+-- a part's record, the byte of most weight first, and then the three bytes, likewise
+pub seven-bytes : (a b c d e f g : ℕ)
+    → linksAt (a ∷ b ∷ c ∷ d ∷ e ∷ f ∷ g ∷ []) 0 ≡ linksOf (a * 16777216 + b * 65536 + c * 256 + d) (e * 65536 + f * 256 + g)
+unfolding wordAt
+seven-bytes a b c d e f g = let more : 0 * 16777216 + e * 65536 + f * 256 + g ≡ e * 65536 + f * 256 + g = omega arith in ap (linksOf (a * 16777216 + b * 65536 + c * 256 + d)) more

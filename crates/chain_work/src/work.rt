@@ -1,9 +1,9 @@
-// The records of a chain's trace worked one after the other, once a run has passed 1 to 3.
+// The records of a chain's trace worked one after the other, once 1, 13, 2 and 3 have been passed.
 ghost use Prim.Native.Nat.{_*_, _+_, _-_, _<_, _≤_};
 ghost use Rattle.chain_work.specs.Records as records;
 ghost use Rattle.chain_work.specs.Records.{wholeRecords};
 ghost use Rattle.chain_work.specs.Work.{ranOf, worked};
-ghost use Rattle.rows.specs.Fits.{fits};
+ghost use Rattle.rows.specs.Relied.{fits};
 ghost use Rattle.chip.specs.Answer.{linesOf};
 ghost use Rattle.counts.specs.Part.{depthOf};
 ghost use Rattle.links.specs.Wire.{endsOf};

@@ -24,7 +24,7 @@ pub record OuterWrite (x : Links) (p : Pins) : Type 0 where
   pub d : p .d ≡ x .pins .d
   pub unsettled : p .unsettled ≡ x .pins .unsettled
 
--- and elsewhere the transfer clock, with OR and Q of the part before, at rest
+-- and elsewhere the transfer clock, with OR and Q of the part before, settled
 pub record InnerWrite (x : Links) (earlier : Lines) (p : Pins) : Type 0 where
   pub wclk : p .wclk ≡ x .clock
   pub wen : p .wen ≡ earlier .ef

@@ -42,7 +42,7 @@ fn print_early(row: Row, standard: State) {
         &WRITE,
         with_first(row, wide_output(row.states[0])),
     );
-    print(b"standard", 255, &WRITE, with_first(row, standard));
+    print(b"standard", 255, &WRITE, with_second(row, standard));
     print(b"length", 255, &WRITE[..6], row);
 }
 
@@ -52,8 +52,8 @@ fn print_records(powered: Row, row: Row) {
     print(
         b"half-started",
         255,
-        &WRITE,
-        with_first(row, powered.states[0]),
+        &RETRANSMIT,
+        with_second(row, powered.states[0]),
     );
     print(b"retransmit", 255, &RETRANSMIT, row);
     print(b"into-standard", 255, &STANDARD, row);

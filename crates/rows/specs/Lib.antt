@@ -1,7 +1,7 @@
 pub mod Row
 pub mod Step
 pub mod StateLaws
-pub mod Fits
+pub mod Relied
 pub mod MoveLaws
 pub mod StepLaws
 pub mod WiringLaws

@@ -20,7 +20,7 @@ withState row i s = cond (ltb i 8) (record { count = row .count; states = set (r
 unfoldable pub chosenOf : Row → ℕ → State → State
 chosenOf row i s = cond (ltb i 8) (getD (row .states) i poweredUp) s
 
--- the first i entries of a list
+-- a row with the first i entries of a list
 unfoldable pub loaded : List State → ℕ → Row
 loaded states zero = emptyRow (length states)
 loaded states (suc i) = withState (loaded states i) i (getD states i poweredUp)
@@ -28,7 +28,7 @@ loaded states (suc i) = withState (loaded states i) i (getD states i poweredUp)
 abbrev pub rowOf : List State → Row
 rowOf states = loaded states (length states)
 
--- the first i entries put back
+-- a list with its first i entries put back
 unfoldable pub storedTo : Row → List State → ℕ → List State
 storedTo row states zero = states
 storedTo row states (suc i) = set (storedTo row states i) i (chosenOf row i (getD (storedTo row states i) i poweredUp))

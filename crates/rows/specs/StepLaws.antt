@@ -1,25 +1,29 @@
 -- Order 4: what comes of a sample's number, and that a sample keeps what a run relies on.
 use Prim.Native.Nat.{ℕ, zero, suc, _*_, _≤_, _<_}
-use mathlib.Core.Bool.{Bool, true, false, cond, _&&_, and-eq-true-iff}
+use mathlib.Core.Bool.{Bool, true, false, not, cond, _||_, and-eq-true-iff, and-false, true≢false}
 use mathlib.Core.List.{List}
-use mathlib.Core.Logic.{_≢_, ⊎-elim}
+use mathlib.Core.Logic.{_⊎_, _≢_, inl, inr, ⊎-elim}
 use mathlib.Core.Path.{_≡_, refl, sym, subst, _∙_}
-use lib.Dec.{eqb, leb}
+use lib.Dec.{eqb}
 use lib.ListN.{length}
 use borrow.Author.Tests.{eq-eqb, eqb-true, le-leb, leb-true, ne-eqb}
 use native.Mathlib.Nat.{eq-or-lt-of-le, le-of-suc-le-suc, not-suc-le-zero}
 use native.Mathlib.Omega.{arith}
 use Rattle.chip.specs.declared.state.State.{State}
-use Rattle.chip.specs.State.{widths}
+use Rattle.chip.specs.ResetLaws.{isFwft}
+use Rattle.chip.specs.State.{passes, widths}
 use Rattle.counts.specs.declared.part.Part.{Part}
 use Rattle.counts.specs.Both.{both}
 use Rattle.counts.specs.Part.{depthOf}
-use Rattle.fifo.specs.Sample.{isTaken, numberOf}
+use Rattle.fifo.specs.Sample.{numberOf}
 use Rattle.links.specs.declared.record.Links.{Links}
+use Rattle.links.specs.Record.{plain}
+use Rattle.links.specs.RefuseLaws.{five-comes, least-told}
+use Rattle.refusals.specs.Refuse.{refusalOf}
 use Rattle.rows.specs.declared.row.Row.{Row}
-use Rattle.rows.specs.Fits.{fits, widthsTo}
+use Rattle.rows.specs.Relied.{fits, widthsTo}
 use Rattle.rows.specs.MoveLaws.{moved-count, moved-eight, moved-length, moved-widths}
-use Rattle.rows.specs.Step.{After, Moving, allTo, chainRefusal, chainStepped, movedTo, stateOf, took, turnedAway}
+use Rattle.rows.specs.Step.{After, Moving, allTo, chainRefusal, chainStepped, judgedTo, movedTo, passesPart, passesTo, stateOf, took, turnedAway, wiredTo}
 
 -- each of the first n passes the test, and nothing else is asked
 pub all-at : (test : State → Bool) (row : Row) (n i : ℕ) → allTo test row n ≡ true → i < n → test (stateOf row i) ≡ true
@@ -101,3 +105,52 @@ module _ (part : Part) (x : Links) (row : Row) (memory : List ℕ) where
   pub step-fits : (words : ℕ) → fits part words row ≡ true → fits part words (chainStepped part x row memory .row) ≡ true
   step-fits words e =
       step-by (λ a. fits part words (a .row) ≡ true) (λ none. told-fits part words (moved .row) (moved-fits words (fits-told part words row e))) e
+
+-- the first of these that a test fails is enough
+fails-by : {A : Type 0} (all : Bool) → (all ≡ true → A) → ¬ A → all ≡ false
+fails-by true f n = absurd (n (f refl))
+fails-by false f n = refl
+
+pub one-fails : (test : State → Bool) (row : Row) (n i : ℕ) → i < n → test (stateOf row i) ≡ false → allTo test row n ≡ false
+one-fails test row n i l e = fails-by (allTo test row n) (λ all. all-at test row n i all l) (λ t. true≢false (sym t ∙ e))
+
+-- 3: the part's own test, and after a Master Reset fall-through, of whichever part
+pub passes-exactly : (part : Part) (s : State) → passes part s ≡ true → passesPart part s ≡ not (s .started) || isFwft (s .read .mode)
+unfolding passesPart
+passes-exactly part s e = rw e refl
+
+pub three-by-standard : (part : Part) (row : Row) (n i : ℕ) → i < n → stateOf row i .started ≡ true → isFwft (stateOf row i .read .mode) ≡ false → passesTo part row n ≡ false
+unfolding passesPart
+three-by-standard part row n i l begun mode = one-fails (passesPart part) row n i l (simp (begun, mode, and-false))
+
+module _ (part : Part) (x : Links) (row : Row) where
+  -- 5 where any part has had no Master Reset
+  pub five-by-any : (i : ℕ) → i < row .count → stateOf row i .started ≡ false → plain (x .more) ≡ true → x .pins .mrs ≡ true → chainRefusal part x row ≡ 5
+  unfolding chainRefusal
+  five-by-any i l e three high = five-comes x _ _ three high (one-fails (λ s. s .started) row (row .count) i l e)
+
+  abbrev numberAt : ℕ → ℕ
+  numberAt i = refusalOf part (wiredTo part x row i) (stateOf row i)
+
+  -- the least number of any part: none gives a lower one, and one of them gives it
+  pub judged-least : (n i : ℕ) → i < n → numberAt i ≢ 0 → (judgedTo part x row n ≢ 0) × (judgedTo part x row n ≤ numberAt i)
+  unfolding judgedTo
+  judged-least zero i l some = absurd (not-suc-le-zero l)
+  judged-least (suc n) i l some =
+      let two = least-told (judgedTo part x row n) (numberAt n) in
+      ⊎-elim (λ z. subst (λ (k : ℕ). (judgedTo part x row (suc n) ≢ 0) × (judgedTo part x row (suc n) ≤ numberAt k)) (sym z) (two .lowOther (subst (λ (k : ℕ). numberAt k ≢ 0) z some)))
+      (λ z. (let before = judged-least n i z some in let now = two .lowOne (before .0) in (now .0, omega (arith, now .1, before .1))))
+      (eq-or-lt-of-le (le-of-suc-le-suc l))
+
+  pub record GivenBy (n number : ℕ) : Type 0 where
+    pub at : ℕ
+    pub below : at < n
+    pub given : number ≡ numberAt at
+
+  pub judged-given : (n : ℕ) → (judgedTo part x row n ≡ 0) ⊎ GivenBy n (judgedTo part x row n)
+  unfolding judgedTo
+  judged-given zero = inl refl
+  judged-given (suc n) =
+      ⊎-elim
+      (λ first. ⊎-elim (λ none. inl (first ∙ none)) (λ by. inr (record { at = by .at; below = omega (arith, by .below); given = first ∙ by .given })) (judged-given n))
+      (λ last. inr (record { at = n; below = omega arith; given = last })) (least-told (judgedTo part x row n) (numberAt n) .either)
