@@ -2,7 +2,7 @@
 use Prim.Native.Nat.{ℕ, _-_, _/_, _≤_, _<_}
 use mathlib.Core.Bool.{Bool, true, not}
 use mathlib.Core.Logic.{_≢_, _↔_}
-use mathlib.Core.Path.{_≡_, refl}
+use mathlib.Core.Path.{_≡_, _∙_, refl, sym}
 use native.Mathlib.Omega.{arith}
 use Rattle.counts.specs.declared.part.Part.{Part}
 use Rattle.counts.specs.Part.{depthOf}
@@ -11,15 +11,18 @@ use Rattle.pins.specs.Laws.{laid}
 use Rattle.pins.specs.Record.{bit}
 use Rattle.sides.specs.declared.read.Mode.the-variants.{Standard, Fwft}
 use Rattle.sides.specs.Clocks.{readRises, writeRises}
-use Rattle.sides.specs.Read.{readAfter, ready, seesWord}
+use Rattle.sides.specs.Read.{readAfter, ready, seesWord, tableOf}
 use Rattle.sides.specs.Write.{full, writeAfter}
 use Rattle.views.specs.declared.retransmit.Setup.{Setup}
 use Rattle.views.specs.declared.retransmit.Setup.the-variants.{Over, OneMore, TwoMore}
 use Rattle.views.specs.Retransmit.{isOver, setupAfter}
+use Rattle.views.specs.TableLaws.{hf-in-row}
+use Rattle.views.specs.Tables.{beyondMemory, hasRow, hfLevel, rowAt}
 use Rattle.chip.specs.declared.state.State.{State}
 use Rattle.chip.specs.Advance.{running, stateAfter}
 use Rattle.chip.specs.Answer.{answerOf, linesOf}
 use Rattle.chip.specs.Levels.{High, Low, Outside, ReadRise, WriteRise, lessRound}
+use Rattle.chip.specs.State.{wordsHeld}
 use Rattle.chip.specs.Tells.{Tells, yes, no, at-most, both, fails, high-where, low-where, none, read-rise, same, write-rise}
 
 over : (setup : Setup) → Tells (setup ≡ Over) (isOver setup)
@@ -60,6 +63,14 @@ module _ (part : Part) (p : Pins) (s : State) where
   pub half-full : Low (bit 21 (answerOf part p s)) ↔ (depthOf part / 2 < lessRound (s .write .count .0) (s .read .count .0))
   unfolding answerOf linesOf
   half-full = rw (laid (linesOf part (p .oe) s) .hf) (low-where (at-most _ _))
+
+  -- and so by the table of the mode: the column in the row of the words in memory
+  pub hf-in-table : let o = s .offsets in hasRow (depthOf part) (o .n) (o .m) (wordsHeld s) ≡ true
+      → bit 21 (answerOf part p s) ≡ hfLevel (rowAt (beyondMemory (tableOf (s .read .mode))) (depthOf part) (o .n) (o .m) (wordsHeld s))
+  unfolding answerOf linesOf
+  hf-in-table found =
+      laid (linesOf part (p .oe) s) .hf
+      ∙ sym (hf-in-row (beyondMemory (tableOf (s .read .mode))) (depthOf part) (s .offsets .n) (s .offsets .m) (wordsHeld s) found)
 
   -- FF LOW when full; EF LOW when the second stage equals the read count, and in a retransmit's setup
   pub standard-flags : s .read .mode ≡ Standard

@@ -59,8 +59,8 @@ fn run(part: Part, p: Pins, fetched: u32, s: State) -> State
     let read_rises = sides::clocks::read_rises(p, s.read);
     let offsets = offsets::loading::load(part, p, write_rises, before);
     let reading = offsets::reading::read_offset(p, read_rises, before, s.reading);
-    let write = sides::write::write_after(part, before.m, p, s.read, s.write);
-    let read = sides::read::read_after(before.n, p, fetched, s.write, s.read);
+    let write = sides::write::write_after(part, before.n, before.m, p, s.read, s.write);
+    let read = sides::read::read_after(part, before.n, before.m, p, fetched, s.write, s.read);
     let enables = super::enables::enables_after(p, s);
     State {
         started: s.started,

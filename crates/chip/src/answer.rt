@@ -23,7 +23,8 @@ pub fn lines(part: Part, oe: bool, s: State) -> Lines
     let ff = ff_level(mode, sides::write::is_full(part, s.write));
     let ef = ef_level(mode, sides::read::is_ready(read));
     let words = counts::round::words_ahead(s.write.count, s.read.count);
-    let hf = !views::flags::is_hf_low(part, words);
+    let table = sides::read::table_of(mode);
+    let hf = !views::flags::is_hf_low(table, part, s.offsets.n, s.offsets.m, words);
     let q = offsets::reading::show(shows, s.read.output);
     Lines {
         ff: ff,

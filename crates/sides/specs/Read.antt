@@ -12,9 +12,16 @@ use Rattle.sides.specs.declared.read.Mode.the-variants.{Standard, Fwft}
 use Rattle.sides.specs.declared.read.ReadSide.{ReadSide}
 use Rattle.sides.specs.declared.write.WriteSide.{WriteSide}
 use Rattle.sides.specs.Clocks.{readRises, writeRises}
+use Rattle.views.specs.declared.tables.Table.{Table}
+use Rattle.views.specs.declared.tables.Table.the-variants.{One, Two}
 use Rattle.views.specs.Flags.{paeLow}
 use Rattle.views.specs.Retransmit.{isOver, setupAfter}
 use Rattle.views.specs.Stages.{latestWrite, takenWrite}
+
+-- the sheet has a table of PAF, HF and PAE for each timing mode
+abbrev pub tableOf : Mode → Table
+tableOf Standard = One
+tableOf (Fwft untaken) = Two
 
 unfoldable pub retransmits : Pins → ReadSide → Bool
 retransmits p r = readRises p r && not (p .rt)

@@ -1,15 +1,17 @@
 // The two sides, RCLK rise in both timing modes; and Retransmit on the read side.
 ghost use Rattle.sides.specs.Clocks.{readRises};
 ghost use Rattle.sides.specs.Held.{heldRead};
-ghost use Rattle.sides.specs.Read.{delivers, deliversBy, modeAfter, readAfter, reads, ready, readyBy, registerAfter, retransmits, seesWord};
+ghost use Rattle.sides.specs.Read.{delivers, deliversBy, modeAfter, readAfter, reads, ready, readyBy, registerAfter, retransmits, seesWord, tableOf};
 ghost use mathlib.Core.Bool.{true};
 ghost use mathlib.Core.Path.{_≡_};
 use super::write::WriteSide;
+use counts::part::Part;
 use counts::round::ReadCount;
 use counts::round::WriteCount;
 use pins::record::Pins;
 use views::retransmit::Setup;
 use views::stages::WriteRise;
+use views::tables::Table;
 
 // Timing modes. In FWFT the output register may hold a word that no read has taken yet; in Standard a word is taken as
 // it is delivered.
@@ -61,11 +63,20 @@ fn is_delivered(p: Pins, r: ReadSide) -> bool
     )
 }
 
-pub fn read_after(n: u16, p: Pins, fetched: u32, w: WriteSide, r: ReadSide) -> ReadSide
+// The part and `m` bound rows of PAE's table; which rows there are changes no level (`pae-by-table` of views).
+pub fn read_after(
+    part: Part,
+    n: u16,
+    m: u16,
+    p: Pins,
+    fetched: u32,
+    w: WriteSide,
+    r: ReadSide,
+) -> ReadSide
     ensures { λ q. ⌜ q ≡ readAfter n p fetched w r ⌝ }
 {
     if super::clocks::read_rises(p, r) {
-        rise(n, p, fetched, w, r)
+        rise(part, n, m, p, fetched, w, r)
     } else {
         let latest = r.latest;
         let other = super::clocks::write_rises(p, w);
@@ -77,7 +88,7 @@ pub fn read_after(n: u16, p: Pins, fetched: u32, w: WriteSide, r: ReadSide) -> R
     }
 }
 
-fn rise(n: u16, p: Pins, fetched: u32, w: WriteSide, r: ReadSide) -> ReadSide
+fn rise(part: Part, n: u16, m: u16, p: Pins, fetched: u32, w: WriteSide, r: ReadSide) -> ReadSide
     requires { ⌜ readRises p r ≡ true ⌝ }
     ensures { λ q. ⌜ q ≡ readAfter n p fetched w r ⌝ }
 {
@@ -93,9 +104,10 @@ fn rise(n: u16, p: Pins, fetched: u32, w: WriteSide, r: ReadSide) -> ReadSide
     let setup = views::retransmit::setup_after(true, p.rt, before);
     let over = views::retransmit::is_over(setup);
     let second = r.first;
-    let low = views::flags::is_pae_low(n, counts::round::words_ahead(second, count));
-    let pae = views::stages::pick_level(over, !low, r.pae);
+    let words = counts::round::words_ahead(second, count);
     let held = r.mode;
+    let low = views::flags::is_pae_low(table_of(held), part, n, m, words);
+    let pae = views::stages::pick_level(over, !low, r.pae);
     let mode = mode_after(held, retransmits, delivered, is_read(p, r));
     let output = register_after(delivered, fetched, r.output);
     ReadSide {
@@ -130,6 +142,15 @@ pub fn hold(level: bool, latest: WriteRise, r: ReadSide) -> ReadSide
         pae: r.pae,
         mode: mode,
         output: r.output,
+    }
+}
+
+pub fn table_of(mode: Mode) -> Table
+    ensures { λ t. ⌜ t ≡ tableOf mode ⌝ }
+{
+    match mode {
+        Mode::Standard => Table::One,
+        Mode::Fwft { untaken: _ } => Table::Two,
     }
 }
 

@@ -58,11 +58,12 @@ fn takes_after(p: Pins, r: ReadSide, w: WriteSide) -> bool
     !(views::stages::looks_past(p.skew.write, latest) & views::retransmit::has_just_begun(setup))
 }
 
-pub fn write_after(part: Part, m: u16, p: Pins, r: ReadSide, w: WriteSide) -> WriteSide
+// `n` bounds rows of PAF's table; which rows there are changes no level (`paf-by-table` of views).
+pub fn write_after(part: Part, n: u16, m: u16, p: Pins, r: ReadSide, w: WriteSide) -> WriteSide
     ensures { λ v. ⌜ v ≡ writeAfter (depthOf part) m p r w ⌝ }
 {
     if super::clocks::write_rises(p, w) {
-        rise(part, m, p, r, w)
+        rise(part, n, m, p, r, w)
     } else {
         let latest = w.latest;
         let view = w.view;
@@ -78,7 +79,7 @@ pub fn write_after(part: Part, m: u16, p: Pins, r: ReadSide, w: WriteSide) -> Wr
     }
 }
 
-fn rise(part: Part, m: u16, p: Pins, r: ReadSide, w: WriteSide) -> WriteSide
+fn rise(part: Part, n: u16, m: u16, p: Pins, r: ReadSide, w: WriteSide) -> WriteSide
     requires { ⌜ writeRises p w ≡ true ⌝ }
     ensures { λ v. ⌜ v ≡ writeAfter (depthOf part) m p r w ⌝ }
 {
@@ -94,7 +95,9 @@ fn rise(part: Part, m: u16, p: Pins, r: ReadSide, w: WriteSide) -> WriteSide
     let seen = views::retransmit::view_after(retransmits, true, takes_after(p, r, w), view);
     let second = w.first;
     let words = counts::round::words_ahead(count, second);
-    let low = views::flags::is_paf_low(part, m, words);
+    let mode = r.mode;
+    let table = super::read::table_of(mode);
+    let low = views::flags::is_paf_low(table, part, n, m, words);
     WriteSide {
         level: p.wclk,
         count: count,

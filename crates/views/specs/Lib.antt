@@ -1,5 +1,7 @@
 pub mod Flags
 pub mod FlagLaws
+pub mod Tables
+pub mod TableLaws
 pub mod Stages
 pub mod StageLaws
 pub mod Retransmit

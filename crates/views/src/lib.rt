@@ -2,3 +2,4 @@
 pub mod flags;
 pub mod retransmit;
 pub mod stages;
+pub mod tables;
