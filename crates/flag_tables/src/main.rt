@@ -1,5 +1,7 @@
 // Tables 1 and 2 of source document 000 as the model has them, for both parts and the offsets that a Master Reset gives. docs/FLAGS.md ends with these
 // lines.
+mod bounds;
+
 ghost use Rattle.views.specs.Tables.{beyondMemory, limitsOf};
 ghost use Rattle.counts.specs.Part.{depthOf};
 ghost use Rattle.offsets.specs.Registers.{defaults};
@@ -10,17 +12,16 @@ use views::tables::Row;
 use views::tables::Table;
 
 fn main() {
-    print_table(Table::One, b"Table 1, IDT Standard mode", false);
-    print_table(Table::One, b"Table 1, IDT Standard mode", true);
-    print_table(Table::Two, b"Table 2, FWFT mode", false);
-    print_table(Table::Two, b"Table 2, FWFT mode", true);
+    print_table(Table::One, false);
+    print_table(Table::One, true);
+    print_table(Table::Two, false);
+    print_table(Table::Two, true);
 }
 
 // `ld` is the level of LD in the Master Reset.
-fn print_table(table: Table, title: &[u8], ld: bool) {
+fn print_table(table: Table, ld: bool) {
     let offsets = offsets::registers::reset_offsets(ld);
-    print_text(b"\n### ");
-    print_text(title);
+    print_title(table);
     print_text(b", n = ");
     print_number(offsets.n as u32);
     print_text(b", m = ");
@@ -30,6 +31,13 @@ fn print_table(table: Table, title: &[u8], ld: bool) {
         limits_by(table, Part::Idt72V255LA, ld),
         limits_by(table, Part::Idt72V265LA, ld),
     );
+}
+
+fn print_title(table: Table) {
+    match table {
+        Table::One => print_text(b"\n### Table 1, IDT Standard mode"),
+        Table::Two => print_text(b"\n### Table 2, FWFT mode"),
+    }
 }
 
 fn limits_by(table: Table, part: Part, ld: bool) -> Limits
@@ -59,8 +67,8 @@ fn print_row(small: Limits, large: Limits, row: Row) {
 }
 
 fn print_counts(limits: Limits, row: Row) {
-    let first = views::tables::first_of(limits, row);
-    let last = views::tables::last_of(limits, row);
+    let first = bounds::first_of(limits, row);
+    let last = bounds::last_of(limits, row);
     print_text(b"| ");
     print_number(first);
     if first < last {

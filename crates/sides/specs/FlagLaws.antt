@@ -1,6 +1,6 @@
 -- The two sides: the flags after a rise of their own clock go by the count after it and by what the first stage held before it,
--- whatever LD and the mode are, and PAF and PAE by the offset handed in; without such a rise PAF and PAE keep their level. After one they show what their
--- columns of Tables 1 and 2 show.
+-- whatever LD and the mode are, and PAF and PAE by the offset handed in; without such a rise PAF and PAE keep their level. Where
+-- their count has a row in Table 1 or 2 they show the level in it.
 use Prim.Native.Nat.{ℕ, _-_, _≤_}
 use mathlib.Core.Bool.{Bool, true, false, not, _&&_}
 use mathlib.Core.Logic.{_↔_, Iff·trans}

@@ -18,7 +18,7 @@ use Rattle.views.specs.Flags.{paeLow}
 use Rattle.views.specs.Retransmit.{isOver, setupAfter}
 use Rattle.views.specs.Stages.{latestWrite, takenWrite}
 
--- the sheet has a table of PAF, HF and PAE for each timing mode
+-- which of the sheet's flag tables
 abbrev pub tableOf : Mode → Table
 tableOf Standard = One
 tableOf (Fwft untaken) = Two

@@ -1,13 +1,12 @@
 -- Tables 1 and 2: each count has one row, and what a flag's column shows in it is what the flag's rule decides.
 use Prim.Native.Nat.{ℕ, _+_, _-_, _/_, _≤_, _<_}
-use mathlib.Core.Bool.{Bool, true, false, not, cond, Bool·not-not}
+use mathlib.Core.Bool.{Bool, true, false, not, cond, and-eq-true-iff, Bool·not-not}
 use mathlib.Core.Logic.{_↔_}
 use mathlib.Core.Path.{_≡_, _∙_, ap, refl, sym}
 use lib.Dec.{eqb, leb, ltb}
 use borrow.Author.Tests.{eq-eqb, eqb-false, eqb-true, le-leb, le-ltb, leb-false, leb-true, lt-leb, lt-ltb, ltb-false, ltb-true, ne-eqb}
 use native.Mathlib.Omega.{arith}
 use Rattle.counts.specs.declared.part.Part.{Part}
-use Rattle.counts.specs.Both.{both}
 use Rattle.counts.specs.Part.{depthOf}
 use Rattle.counts.specs.PartLaws.{deepest}
 use Rattle.views.specs.FlagLaws.{Decided, decided}
@@ -19,7 +18,7 @@ use Rattle.views.specs.declared.tables.Row.the-variants.{Empty, AlmostEm
 use Rattle.views.specs.declared.tables.Table.{Table}
 use Rattle.views.specs.declared.tables.Table.the-variants.{One, Two}
 
--- both sides of every limit, one table with the first default offsets and one with the second
+-- both sides of every limit: Table 1 of part 255 with offsets of 127, Table 2 of part 265 with 1,023
 pub at-limits-of-one : let row = rowOf (limitsOf (beyondMemory One) 8192 127 127) in
     (row 0 ≡ Empty) × (row 1 ≡ AlmostEmpty) × (row 127 ≡ AlmostEmpty) × (row 128 ≡ ToHalf) × (row 4096 ≡ ToHalf) × (row 4097 ≡ AboveHalf)
     × (row 8064 ≡ AboveHalf) × (row 8065 ≡ AlmostFull) × (row 8191 ≡ AlmostFull) × (row 8192 ≡ Full)
@@ -37,10 +36,23 @@ pub at-overlaps : (inOrder 8192 4096 4095 ≡ true) × (inOrder 8192 4097 4095 �
     × (hasRow 8192 0 0 8192 ≡ true) × (hasRow 8192 0 0 8193 ≡ false)
 at-overlaps = (refl, refl, refl, refl, refl, refl)
 
+-- where a row decides, for all numbers and both ways
+pub order-told : (depth n m : ℕ) → (inOrder depth n m ≡ true) ↔ ((n ≤ depth / 2) × (depth / 2 < depth - m))
+order-told depth n m =
+    let parts = and-eq-true-iff (leb n (depth / 2)) (ltb (depth / 2) (depth - m)) in (
+      λ e. (leb-true n (depth / 2) (parts .0 e .0), ltb-true (depth / 2) (depth - m) (parts .0 e .1)),
+      λ told. parts .1 (le-leb n (depth / 2) (told .0), lt-ltb (depth / 2) (depth - m) (told .1)),
+    )
+
+pub row-told : (depth n m words : ℕ) → (hasRow depth n m words ≡ true) ↔ ((inOrder depth n m ≡ true) × (words ≤ depth))
+row-told depth n m words =
+    let parts = and-eq-true-iff (inOrder depth n m) (leb words depth) in
+    (λ e. (parts .0 e .0, leb-true words depth (parts .0 e .1)), λ told. parts .1 (told .0, le-leb words depth (told .1)))
+
 pub record Ordered (limits : Limits) : Type 0 where
-  pub below : limits .low ≤ limits .half
-  pub above : limits .half < limits .high
-  pub within : limits .high ≤ limits .full
+  pub below : limits .few ≤ limits .half
+  pub above : limits .half < limits .many
+  pub within : limits .many ≤ limits .full
 
 pub record Held (limits : Limits) (row : Row) (count : ℕ) : Type 0 where
   pub first : firstOf limits row ≤ count
@@ -52,12 +64,10 @@ pub record OneRow (limits : Limits) (count : ℕ) : Type 0 where
 
 pub ordered : (beyond depth n m : ℕ) → inOrder depth n m ≡ true → Ordered (limitsOf beyond depth n m)
 ordered beyond depth n m e =
-    let parts = both (leb n (depth / 2)) (ltb (depth / 2) (depth - m)) e in
-    let low = leb-true n (depth / 2) (parts .0) in
-    let high = ltb-true (depth / 2) (depth - m) (parts .1) in
+    let told = order-told depth n m .0 e in
     record { below = omega arith; above = omega arith; within = omega arith }
 
--- the limits in the sheet's own words, from the second row to the last; of a depth D Table 2 prints D + 1
+-- the limits as the sheet prints them, from the second row to the last; where Table 1 has the depth, Table 2 has one more
 pub record Printed (beyond depth n m : ℕ) (limits : Limits) : Type 0 where
   pub second : (firstOf limits AlmostEmpty ≡ 1) × (lastOf limits AlmostEmpty ≡ n + beyond)
   pub third : (firstOf limits ToHalf ≡ n + beyond + 1) × (lastOf limits ToHalf ≡ depth / 2 + beyond)
@@ -81,22 +91,22 @@ some count e = let h = eqb-false count 0 e in omega arith
 
 module _ (limits : Limits) (count : ℕ) where
   -- by the tests on the way down the rows
-  held-by : (toEmptyOffset none toHalf toFullOffset toFull : Bool) → leb count (limits .low) ≡ toEmptyOffset → eqb count 0 ≡ none
-      → leb count (limits .half) ≡ toHalf → ltb count (limits .high) ≡ toFullOffset → ltb count (limits .full) ≡ toFull → count ≤ limits .full
+  held-by : (toEmptyOffset none toHalf toFullOffset toFull : Bool) → leb count (limits .few) ≡ toEmptyOffset → eqb count 0 ≡ none
+      → leb count (limits .half) ≡ toHalf → ltb count (limits .many) ≡ toFullOffset → ltb count (limits .full) ≡ toFull → count ≤ limits .full
       → Held limits
       (cond toEmptyOffset (cond none Empty AlmostEmpty) (cond toHalf ToHalf (cond toFullOffset AboveHalf (cond toFull AlmostFull Full)))) count
   held-by true true h m f a b c d e t = let u = eqb-true count 0 b in record { first = omega arith; last = omega arith }
   held-by true false h m f a b c d e t =
-      let u = leb-true count (limits .low) a in
+      let u = leb-true count (limits .few) a in
       let v = some count b in record { first = omega arith; last = omega arith }
   held-by false z true m f a b c d e t =
-      let u = leb-false count (limits .low) a in
+      let u = leb-false count (limits .few) a in
       let v = leb-true count (limits .half) c in record { first = omega arith; last = omega arith }
   held-by false z false true f a b c d e t =
       let u = leb-false count (limits .half) c in
-      let v = ltb-true count (limits .high) d in record { first = omega arith; last = omega arith }
+      let v = ltb-true count (limits .many) d in record { first = omega arith; last = omega arith }
   held-by false z false false true a b c d e t =
-      let u = ltb-false count (limits .high) d in
+      let u = ltb-false count (limits .many) d in
       let v = ltb-true count (limits .full) e in record { first = omega arith; last = omega arith }
   held-by false z false false false a b c d e t =
       let u = ltb-false count (limits .full) e in record { first = omega arith; last = omega arith }
@@ -104,23 +114,23 @@ module _ (limits : Limits) (count : ℕ) where
   -- a row that holds the count is the one that is found
   only-by : (row : Row) → Ordered limits → Held limits row count → rowOf limits count ≡ row
   unfolding rowOf
-  only-by Empty o h = simp (le-leb count (limits .low) (omega arith), eq-eqb count 0 (omega arith))
-  only-by AlmostEmpty o h = simp (le-leb count (limits .low) (omega arith), ne-eqb count 0 (λ e. omega arith))
-  only-by ToHalf o h = simp (lt-leb count (limits .low) (omega arith), le-leb count (limits .half) (omega arith))
+  only-by Empty o h = simp (le-leb count (limits .few) (omega arith), eq-eqb count 0 (omega arith))
+  only-by AlmostEmpty o h = simp (le-leb count (limits .few) (omega arith), ne-eqb count 0 (λ e. omega arith))
+  only-by ToHalf o h = simp (lt-leb count (limits .few) (omega arith), le-leb count (limits .half) (omega arith))
   only-by AboveHalf o h =
-      simp (lt-leb count (limits .low) (omega arith), lt-leb count (limits .half) (omega arith), lt-ltb count (limits .high) (omega arith))
+      simp (lt-leb count (limits .few) (omega arith), lt-leb count (limits .half) (omega arith), lt-ltb count (limits .many) (omega arith))
   only-by AlmostFull o h =
       simp (
-        lt-leb count (limits .low) (omega arith),
+        lt-leb count (limits .few) (omega arith),
         lt-leb count (limits .half) (omega arith),
-        le-ltb count (limits .high) (omega arith),
+        le-ltb count (limits .many) (omega arith),
         lt-ltb count (limits .full) (omega arith),
       )
   only-by Full o h =
       simp (
-        lt-leb count (limits .low) (omega arith),
+        lt-leb count (limits .few) (omega arith),
         lt-leb count (limits .half) (omega arith),
-        le-ltb count (limits .high) (omega arith),
+        le-ltb count (limits .many) (omega arith),
         le-ltb count (limits .full) (omega arith),
       )
 
@@ -136,7 +146,7 @@ pub each-count : (table : Table) (depth n m count : ℕ) → inOrder depth n m �
     → OneRow (limitsOf (beyondMemory table) depth n m) count
 each-count table depth n m count e t = one-row (limitsOf (beyondMemory table) depth n m) count (ordered (beyondMemory table) depth n m e) t
 
--- in Table 2 no word in memory reads the same with a word in the output register, in the second row, as with none, in the first
+-- Table 2 with an empty memory: the same levels in the first row, the output register empty too, and in the second, a word in it
 pub none-in-memory : (depth n m : ℕ) → let limits = limitsOf (beyondMemory Two) depth n m in
     (rowOf limits 0 ≡ Empty) × (rowOf limits 1 ≡ AlmostEmpty)
     × (pafLevel Empty ≡ pafLevel AlmostEmpty) × (hfLevel Empty ≡ hfLevel AlmostEmpty) × (paeLevel Empty ≡ paeLevel AlmostEmpty)
@@ -150,9 +160,8 @@ table-fits part Two = let d = deepest part in omega arith
 
 pub row-fits : (beyond depth n m words : ℕ) → hasRow depth n m words ≡ true → depth + beyond < 65536 → (n ≤ depth) × (standsAt beyond words < 65536)
 row-fits beyond depth n m words e f =
-    let parts = both (inOrder depth n m) (leb words depth) e in
-    let order = ordered beyond depth n m (parts .0) in
-    let inside = leb-true words depth (parts .1) in (omega arith, omega arith)
+    let told = row-told depth n m words .0 e in
+    let order = ordered beyond depth n m (told .0) in (omega arith, omega arith)
 
 shown-high : (low : Bool) (P : Type 0) → (low ≡ true) ↔ P → (P → ⊥) → true ≡ not low
 shown-high true P rule fails = absurd (fails (rule .0 refl))
@@ -202,9 +211,8 @@ module _ (beyond depth n m words : ℕ) where
   in-row : (level : Row → Bool) (rule : Bool) → ((row : Row) → Ordered limits → Held limits row (standsAt beyond words) → level row ≡ not rule)
       → hasRow depth n m words ≡ true → level (rowAt beyond depth n m words) ≡ not rule
   in-row level rule agrees e =
-      let parts = both (inOrder depth n m) (leb words depth) e in
-      let order = ordered beyond depth n m (parts .0) in
-      let inside = leb-true words depth (parts .1) in
+      let told = row-told depth n m words .0 e in
+      let order = ordered beyond depth n m (told .0) in
       agrees (rowAt beyond depth n m words) order (one-row limits (standsAt beyond words) order (omega arith) .held)
 
   pub paf-in-row : hasRow depth n m words ≡ true → pafLevel (rowAt beyond depth n m words) ≡ not (pafLow depth m words)

@@ -17,9 +17,9 @@ beyondMemory Two = 1
 -- the numbers that bound the rows, n, half the depth, the depth less m and the depth, as either table counts
 abbrev pub limitsOf : ℕ → ℕ → ℕ → ℕ → Limits
 limitsOf beyond depth n m = record {
-  low = n + beyond;
+  few = n + beyond;
   half = depth / 2 + beyond;
-  high = depth - m + beyond;
+  many = depth - m + beyond;
   full = depth + beyond;
 }
 
@@ -27,17 +27,17 @@ limitsOf beyond depth n m = record {
 abbrev pub firstOf : Limits → Row → ℕ
 firstOf limits Empty = 0
 firstOf limits AlmostEmpty = 1
-firstOf limits ToHalf = limits .low + 1
+firstOf limits ToHalf = limits .few + 1
 firstOf limits AboveHalf = limits .half + 1
-firstOf limits AlmostFull = limits .high
+firstOf limits AlmostFull = limits .many
 firstOf limits Full = limits .full
 
 -- .. to its last
 abbrev pub lastOf : Limits → Row → ℕ
 lastOf limits Empty = 0
-lastOf limits AlmostEmpty = limits .low
+lastOf limits AlmostEmpty = limits .few
 lastOf limits ToHalf = limits .half
-lastOf limits AboveHalf = limits .high - 1
+lastOf limits AboveHalf = limits .many - 1
 lastOf limits AlmostFull = limits .full - 1
 lastOf limits Full = limits .full
 
@@ -69,9 +69,9 @@ paeLevel Full = true
 -- down the rows to the one of a count
 unfoldable pub rowOf : Limits → ℕ → Row
 rowOf limits count =
-    cond (leb count (limits .low)) (cond (eqb count 0) Empty AlmostEmpty)
+    cond (leb count (limits .few)) (cond (eqb count 0) Empty AlmostEmpty)
     (cond (leb count (limits .half)) ToHalf
-    (cond (ltb count (limits .high)) AboveHalf
+    (cond (ltb count (limits .many)) AboveHalf
     (cond (ltb count (limits .full)) AlmostFull Full)))
 
 -- the rows do not overlap and stand in the sheet's order

@@ -1,6 +1,6 @@
 // Source document 000, Tables 1 and 2: PAF, HF and PAE row by row.
 ghost use Prim.Native.Nat.{_+_, _-_, _<_, _≤_};
-ghost use Rattle.views.specs.Tables.{beyondMemory, firstOf, hasRow, hfLevel, lastOf, limitsOf, paeLevel, pafLevel, rowOf, standsAt};
+ghost use Rattle.views.specs.Tables.{beyondMemory, hasRow, hfLevel, limitsOf, paeLevel, pafLevel, rowOf, standsAt};
 ghost use mathlib.Core.Path.{_≡_};
 
 // Table 1 is that of Standard mode, Table 2 that of FWFT.
@@ -21,9 +21,9 @@ pub enum Row {
 
 // The last count of the rows AlmostEmpty and ToHalf, and the first of the rows AlmostFull and Full.
 pub struct Limits {
-    pub low: u16,
+    pub few: u16,
     pub half: u16,
-    pub high: u16,
+    pub many: u16,
     pub full: u16,
 }
 
@@ -42,9 +42,9 @@ pub fn limits_of(beyond: u16, depth: u16, n: u16, m: u16) -> Limits
     ensures { λ r. ⌜ r ≡ limitsOf beyond depth n m ⌝ }
 {
     Limits {
-        low: n + beyond,
+        few: n + beyond,
         half: depth / 2 + beyond,
-        high: less(depth, m) + beyond,
+        many: less(depth, m) + beyond,
         full: depth + beyond,
     }
 }
@@ -65,7 +65,7 @@ pub fn stands_at(beyond: u16, words: u16) -> u16
 pub fn row_of(limits: Limits, count: u16) -> Row
     ensures { λ r. ⌜ r ≡ rowOf limits count ⌝ }
 {
-    if count <= limits.low {
+    if count <= limits.few {
         if count == 0 {
             Row::Empty
         } else {
@@ -73,7 +73,7 @@ pub fn row_of(limits: Limits, count: u16) -> Row
         }
     } else if count <= limits.half {
         Row::ToHalf
-    } else if count < limits.high {
+    } else if count < limits.many {
         Row::AboveHalf
     } else if count < limits.full {
         Row::AlmostFull
@@ -118,32 +118,6 @@ pub fn pae_level(row: Row) -> bool
         Row::AboveHalf => true,
         Row::AlmostFull => true,
         Row::Full => true,
-    }
-}
-
-pub fn first_of(limits: Limits, row: Row) -> u32
-    ensures { λ r. ⌜ r ≡ firstOf limits row ⌝ }
-{
-    match row {
-        Row::Empty => 0,
-        Row::AlmostEmpty => 1,
-        Row::ToHalf => limits.low as u32 + 1,
-        Row::AboveHalf => limits.half as u32 + 1,
-        Row::AlmostFull => limits.high as u32,
-        Row::Full => limits.full as u32,
-    }
-}
-
-pub fn last_of(limits: Limits, row: Row) -> u32
-    ensures { λ r. ⌜ r ≡ lastOf limits row ⌝ }
-{
-    match row {
-        Row::Empty => 0,
-        Row::AlmostEmpty => limits.low as u32,
-        Row::ToHalf => limits.half as u32,
-        Row::AboveHalf => less(limits.high, 1) as u32,
-        Row::AlmostFull => less(limits.full, 1) as u32,
-        Row::Full => limits.full as u32,
     }
 }
 

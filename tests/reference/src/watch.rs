@@ -104,7 +104,7 @@ impl Corners {
         let limit = after.part.depth - before.offsets.m;
         let half = after.part.depth / 2;
         self.note(after, Corner::AlmostFullAt, after.held_for_writer() == limit);
-        self.note(after, Corner::AlmostFullToHalf, after.held_for_writer() == limit && limit <= half);
+        self.note(after, Corner::AlmostFullToHalf, (limit..=half).contains(&after.held_for_writer()));
         self.note(after, Corner::AlmostFullBelow, after.held_for_writer() + 1 == limit);
         let past = looks_past(&after.writes, after.writes.latest().number, &after.reads);
         let passed = after.reads.latest_before(after.writes.latest().sample).number;
@@ -122,9 +122,7 @@ impl Corners {
         self.note(after, Corner::ReadAsReady, asked && !before.ready() && after.ready());
         self.note(after, Corner::ReadCountPassed, after.read_count() > WIDTH);
         if after.rises_since_retransmit().is_none_or(|since| since >= 2) {
-            let over_half = before.offsets.n > after.part.depth / 2;
             self.note(after, Corner::AlmostEmptyAt, after.held_for_reader() == before.offsets.n);
-            self.note(after, Corner::AlmostEmptyOverHalf, after.held_for_reader() == before.offsets.n && over_half);
             self.note(after, Corner::AlmostEmptyAbove, after.held_for_reader() == before.offsets.n + 1);
         }
     }
@@ -136,10 +134,9 @@ impl Corners {
         let pae_now = after.held_for_reader() > n;
         let paf_now = after.held_for_writer() < after.part.depth - m;
         let half = after.part.depth / 2;
-        let overlapping = n > half || after.part.depth - m <= half;
         self.note(after, Corner::HalfExactly, after.held() == half);
         self.note(after, Corner::HalfPassed, after.held() == half + 1);
-        self.note(after, Corner::HalfPassedOverlapping, after.held() == half + 1 && overlapping);
+        self.note(after, Corner::HalfPassedToEmptyOffset, (half + 1..=n).contains(&after.held()));
         self.note(after, Corner::AlmostBoth, !pae && !paf);
         self.note(after, Corner::Undriven, event.pins.oe && after.output != 0);
         let waits = after.rises_since_retransmit().is_some_and(|since| since < 2);

@@ -1,6 +1,6 @@
 use borrow.Author.Needs.{needs}
-use Rattle.views.proofs.tables.last_of.Statement.{statement}
-use Rattle.views.proofs.tables.last_of.Tie as tie
+use Rattle.flag_tables.proofs.bounds.last_of.Statement.{statement}
+use Rattle.flag_tables.proofs.bounds.last_of.Tie as tie
 
 returns : tie.Need-returns
 returns c = simp (c .enum-told .given .1)
