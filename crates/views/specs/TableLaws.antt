@@ -158,9 +158,10 @@ pub table-fits : (part : Part) (table : Table) → depthOf part + beyondMemory t
 table-fits part One = let d = deepest part in omega arith
 table-fits part Two = let d = deepest part in omega arith
 
-pub row-fits : (beyond depth n m words : ℕ) → hasRow depth n m words ≡ true → depth + beyond < 65536 → (n ≤ depth) × (standsAt beyond words < 65536)
-row-fits beyond depth n m words e f =
-    let told = row-told depth n m words .0 e in
+pub row-fits : (beyond depth n m words : ℕ) {found : Bool} → found ≡ hasRow depth n m words → found ≡ true → depth + beyond < 65536
+    → (n ≤ depth) × (standsAt beyond words < 65536)
+row-fits beyond depth n m words tested found fits =
+    let told = row-told depth n m words .0 (sym tested ∙ found) in
     let order = ordered beyond depth n m (told .0) in (omega arith, omega arith)
 
 shown-high : (low : Bool) (P : Type 0) → (low ≡ true) ↔ P → (P → ⊥) → true ≡ not low

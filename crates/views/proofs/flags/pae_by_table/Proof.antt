@@ -1,24 +1,14 @@
 use Rattle.views.specs.Tables.{paeByTable}
-use mathlib.Core.Path.{sym, _∙_}
 use Rattle.views.specs.TableLaws.{row-fits}
 use borrow.Author.Needs.{needs}
 use Rattle.views.proofs.flags.pae_by_table.Statement.{statement}
 use Rattle.views.proofs.flags.pae_by_table.Tie as tie
 
 limits-of-requires : tie.Need-limits-of-requires
-limits-of-requires c κs =
-    let start = c .before .before in
-    let args = start .args in
-    let found = sym (c .before .has-row .ensures) ∙ c .if1 .taken in
-    (row-fits (args .beyond) (args .depth) (args .n) (args .m) (args .words) found (start .pre) .0, start .pre)
+limits-of-requires c κs = let start = c .before .before in (row-fits _ _ _ _ _ (c .before .has-row .ensures) (c .if1 .taken) (start .pre) .0, start .pre)
 
 stands-at-requires : tie.Need-stands-at-requires
-stands-at-requires c κs =
-    let branch = c .before in
-    let start = branch .before .before in
-    let args = start .args in
-    let found = sym (branch .before .has-row .ensures) ∙ branch .if1 .taken in
-    row-fits (args .beyond) (args .depth) (args .n) (args .m) (args .words) found (start .pre) .1
+stands-at-requires c κs = let test = c .before in row-fits _ _ _ _ _ (test .before .has-row .ensures) (test .if1 .taken) (test .before .before .pre) .1
 
 returns : tie.Need-returns
 unfolding paeByTable
