@@ -51,15 +51,6 @@ static void reset_both_sides(struct plain_state *state)
     state->write = (struct plain_write_side){.view = PLAIN_SEEN};
     state->read = (struct plain_read_side){.almost_empty = true};
     state->offsets.showing = false;
-    state->high_water = 0;
-}
-
-// Only a rise can bring more words than the mark.
-static void raise_high_water(struct plain_state *state)
-{
-    uint16_t held = (uint16_t)difference(state->write.count, state->read.count);
-    if (held > state->high_water)
-        state->high_water = held;
 }
 
 // The read side goes first, since a write in the same sample may replace the word that it fetches. Neither side sees the
@@ -85,7 +76,6 @@ static void rise(const struct plain_part *part, struct plain_state *state, uint3
         if (low(record, RT))
             state->write.view = PLAIN_UNSEEN;
     }
-    raise_high_water(state);
 }
 
 static uint32_t answer_of(const struct plain_part *part, const struct plain_state *state, uint32_t record)

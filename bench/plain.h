@@ -1,4 +1,4 @@
-// A plain C model of paper 01 and of orders 2, 3 and 6 of paper 02, written for comparison: state in a struct, memory in words.
+// A plain C model of paper 01 and of orders 2 and 3 of paper 02, written for comparison: state in a struct, memory in words.
 #ifndef PLAIN_H
 #define PLAIN_H
 
@@ -62,7 +62,6 @@ struct plain_state {
     bool fell_clean; // RT last fell with both enables HIGH, in that record and in the one before
     bool master_reset;
     enum plain_mode mode;
-    uint16_t high_water; // the most words that memory has held after a record since the last reset
     struct plain_write_side write;
     struct plain_read_side read;
     struct plain_offsets offsets;

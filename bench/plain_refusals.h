@@ -18,7 +18,7 @@ static bool counts_hold(const struct plain_part *part, const struct plain_state 
     uint16_t count = state->write.count;
     uint32_t held = difference(count, state->read.count);
     uint32_t unseen = difference(count, state->read.stages.second);
-    return held <= state->high_water && state->high_water <= part->depth && unseen <= held
+    return held <= part->depth && unseen <= part->depth && unseen <= held
         && difference(count, state->read.stages.first) <= part->depth
         && difference(count, state->write.stages.first) <= part->depth
         && difference(count, state->write.stages.second) <= part->depth;

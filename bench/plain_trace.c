@@ -1,16 +1,10 @@
-// The trace program in plain C: a trace on standard input, its lines on standard output, strict or lenient, with the
-// high-water mark or without.
+// The trace program in plain C: a trace on standard input, its lines on standard output, strict or lenient.
 #include "plain.h"
 
 #include <stdio.h>
 #include <string.h>
 
 enum { CHUNK_RECORDS = 4096, LONGEST_LINE = 50 };
-
-struct manner {
-    bool lenient;
-    bool high;
-};
 
 struct progress {
     struct plain_state state;
@@ -41,19 +35,14 @@ static char *put_text(char *at, const char *text)
     return at + length;
 }
 
-static char *put_answer(char *at, uint64_t index, uint32_t answer)
+static char *put_answer_line(char *at, uint64_t index, uint32_t answer)
 {
     at = put_decimal(at, index);
     *at++ = ' ';
     for (int shift = 20; shift >= 0; shift -= 4)
         *at++ = "0123456789ABCDEF"[answer >> shift & 15];
+    *at++ = '\n';
     return at;
-}
-
-static char *put_high_water(char *at, const struct plain_state *state)
-{
-    *at++ = ' ';
-    return put_decimal(at, state->high_water);
 }
 
 static char *put_refusal_line(char *at, uint64_t index, uint32_t refusal)
@@ -65,39 +54,35 @@ static char *put_refusal_line(char *at, uint64_t index, uint32_t refusal)
     return at;
 }
 
-static char *put_record(char *at, const struct plain_part *part, uint32_t record, struct manner manner,
+static char *put_record(char *at, const struct plain_part *part, uint32_t record, bool lenient,
                         struct progress *progress)
 {
     uint32_t answer;
     uint32_t refusal = plain_step(part, record, &progress->state, memory, &answer);
     if (refusal == 0) {
         progress->accepted++;
-        at = put_answer(at, progress->records++, answer);
-        if (manner.high)
-            at = put_high_water(at, &progress->state);
-        *at++ = '\n';
-        return at;
+        return put_answer_line(at, progress->records++, answer);
     }
-    if (manner.lenient)
+    if (lenient)
         return put_refusal_line(at, progress->records++, refusal);
     progress->refusal = refusal;
     return at;
 }
 
-static void work_chunk(const struct plain_part *part, const uint8_t *trace, size_t length, struct manner manner,
+static void work_chunk(const struct plain_part *part, const uint8_t *trace, size_t length, bool lenient,
                        struct progress *progress)
 {
     static char lines[CHUNK_RECORDS * LONGEST_LINE];
     char *at = lines;
     size_t place = 0;
     for (; place + 4 <= length && progress->refusal == 0; place += 4)
-        at = put_record(at, part, plain_record(trace + place), manner, progress);
+        at = put_record(at, part, plain_record(trace + place), lenient, progress);
     if (place < length && progress->refusal == 0)
         progress->refusal = 4;
     fwrite(lines, 1, (size_t)(at - lines), stdout);
 }
 
-static void work_trace(uint32_t number, struct manner manner, struct progress *progress)
+static void work_trace(uint32_t number, bool lenient, struct progress *progress)
 {
     static uint8_t trace[CHUNK_RECORDS * 4];
     const struct plain_part *part = plain_part(number);
@@ -106,37 +91,21 @@ static void work_trace(uint32_t number, struct manner manner, struct progress *p
         progress->refusal = 1;
     while (progress->refusal == 0 && length == sizeof trace) {
         length = fread(trace, 1, sizeof trace, stdin);
-        work_chunk(part, trace, length, manner, progress);
+        work_chunk(part, trace, length, lenient, progress);
     }
-}
-
-// Each word at most once, in either order.
-static bool read_manner(int words, char **word, struct manner *manner)
-{
-    for (int i = 0; i < words; i++) {
-        bool *named = NULL;
-        if (strcmp(word[i], "lenient") == 0)
-            named = &manner->lenient;
-        else if (strcmp(word[i], "high") == 0)
-            named = &manner->high;
-        if (named == NULL || *named)
-            return false;
-        *named = true;
-    }
-    return true;
 }
 
 int main(int count, char **arguments)
 {
-    struct manner manner = {false, false};
-    if (!read_manner(count - 1, arguments + 1, &manner)) {
-        fputs("plain_trace: the only arguments are lenient and high; the trace comes on standard input\n", stderr);
+    bool lenient = count == 2 && strcmp(arguments[1], "lenient") == 0;
+    if (count > 1 && !lenient) {
+        fputs("plain_trace: the only argument is lenient; the trace comes on standard input\n", stderr);
         return 2;
     }
     uint8_t header[2];
     uint32_t number = fread(header, 1, 2, stdin) == 2 ? (uint32_t)header[0] << 8 | header[1] : 0;
     struct progress progress = {.state = plain_power_up()};
-    work_trace(number, manner, &progress);
+    work_trace(number, lenient, &progress);
     printf("end %llu %u\n", (unsigned long long)progress.accepted, progress.refusal);
     return 0;
 }

@@ -3,8 +3,6 @@
  *   bench FILE            stops at the first refusal
  *   bench lenient FILE    notes a refusal and goes on
  *
- * At the end it says on standard error how many words the memory has held at most since the last reset.
- *
  * The file is a part number in two bytes, then records of four bytes, all with the first byte of most weight. */
 #include <fifo.h>
 #include <stdio.h>
@@ -58,16 +56,6 @@ static uint32_t work(struct chip *chip, FILE *trace, int lenient, unsigned long 
     return got == 0 ? 0 : 4;
 }
 
-/* How full the memory got, for whoever reads along. */
-static void print_high_water(const struct chip *chip)
-{
-    uint8_t words[4];
-
-    if (fifo_high_water(chip->part, chip->state, chip->state_len, words, sizeof words) == 0)
-        fprintf(stderr, "bench: at most %u words held since the last reset\n",
-                (unsigned)words[0] << 24 | (unsigned)words[1] << 16 | (unsigned)words[2] << 8 | words[3]);
-}
-
 int main(int argc, char **argv)
 {
     int lenient = argc == 3 && strcmp(argv[1], "lenient") == 0;
@@ -88,10 +76,8 @@ int main(int argc, char **argv)
     }
     if (fread(number, 1, sizeof number, trace) == sizeof number)
         refusal = power_up(&chip, (uint32_t)number[0] << 8 | number[1]);
-    if (refusal == 0) {
+    if (refusal == 0)
         refusal = work(&chip, trace, lenient, &accepted);
-        print_high_water(&chip);
-    }
     printf("end %lu %u\n", accepted, (unsigned)refusal);
     fclose(trace);
     return 0;

@@ -19,8 +19,7 @@ extern "C" {
 #endif
 
 /* Bytes of a state. They mean nothing to the caller: they are made by fifo_power_up and changed by fifo_sample, and may be
- * copied and kept. Each state has one spelling. Bytes kept from before the high-water mark came have 0 in its place: with
- * words in memory they are refused 3. */
+ * copied and kept. Each state has one spelling. */
 uint32_t fifo_state_bytes(void);
 
 /* Bytes of the memory of a part: four for each word, 32,768 for 255 and 65,536 for 265; 0 for any other number. */
@@ -58,9 +57,7 @@ uint32_t fifo_power_up(uint8_t *state, size_t state_len);
  *          wider than 18;
  *        - the serial bits so far are wider than their count, or that count is not below the part's 26 or 28;
  *        - counted round 16 bits, the read count or a stage of either side lies more than the depth behind the write
- *          count, or the read side's second stage lies behind the read count;
- *        - the high-water mark is above the depth, or below the words now held: the write count less the read count,
- *          round 16 bits.
+ *          count, or the read side's second stage lies behind the read count.
  *        Never so for a state that fifo_power_up made and that fifo_sample alone has changed since, with one part number
  *        all the time
  *    4   record_len is not 4
@@ -79,22 +76,6 @@ uint32_t fifo_power_up(uint8_t *state, size_t state_len);
  * where the last one taken left off. */
 uint32_t fifo_sample(uint32_t part, const uint8_t *record, size_t record_len, uint8_t *state, size_t state_len,
                      uint8_t *memory, size_t memory_len, uint8_t *answer, size_t answer_len);
-
-/* Reads the high-water mark, with no sample: the most words that the memory has held since the last reset. It is looked at
- * after each sample taken, so that a write and a read in one sample do not count one more for a moment; in fall-through mode
- * the word in the output register is not counted. Either reset puts it to 0, as power-up does; a retransmit may raise it,
- * since it puts words back.
- *
- *   part               as for fifo_sample
- *   state, state_len   the state, which is only read
- *   words, words_len   room for the mark, exactly 4 bytes, the first of most weight
- *
- * Gives 0; or the number of the first of these that applies, and then nothing is written:
- *
- *    1   part is neither 255 nor 265
- *    2   state_len or words_len is wrong
- *    3   as for fifo_sample */
-uint32_t fifo_high_water(uint32_t part, const uint8_t *state, size_t state_len, uint8_t *words, size_t words_len);
 
 #ifdef __cplusplus
 }

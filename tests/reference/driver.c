@@ -8,7 +8,7 @@
 #include "guarded.h"
 #include "talk.h"
 
-enum { RECORD = 4, ANSWER = 3, WORD = 4, MARK = 4, FILLED = 0xA5 };
+enum { RECORD = 4, ANSWER = 3, WORD = 4, FILLED = 0xA5 };
 enum { STATE_MOVED = 1, MEMORY_MOVED = 2, ANSWER_MOVED = 4, RECORD_MOVED = 8, NOT_REPEATED = 16 };
 
 /* What one call is given besides the state and the memory, as it comes in the command. */
@@ -18,13 +18,7 @@ struct call {
     uint64_t record_length, state_length, memory_length, answer_length;
 } __attribute__((packed));
 
-/* The same for a call that reads the high-water mark. */
-struct mark_call {
-    uint32_t part;
-    uint64_t state_length, words_length;
-} __attribute__((packed));
-
-static struct guarded records, states, memories[2], rooms, marks;
+static struct guarded records, states, memories[2], rooms;
 static int against_front;
 static uint32_t part, state_bytes;
 static uint8_t *saved_state, *last_state;
@@ -155,47 +149,8 @@ static void aftermath(void)
     reply(written, WORD);
 }
 
-static uint32_t high_water(const struct mark_call *call)
-{
-    return fifo_high_water(call->part, guarded_at(&states, call->state_length, against_front), call->state_length,
-                           guarded_at(&marks, call->words_length, against_front), call->words_length);
-}
-
-/* The four bytes of the last call for the mark, which are then as before it, like the rest of their room. */
-static void take_mark(uint8_t *mark)
-{
-    uint8_t *room = guarded_at(&marks, MARK, against_front);
-    memcpy(mark, room, MARK);
-    memset(room, FILLED, MARK);
-}
-
-static void watched_mark(void)
-{
-    struct mark_call call;
-    uint8_t faults, mark[MARK] = {0};
-    receive(&call, sizeof call);
-    guarded_keep(&states);
-    uint32_t code = high_water(&call);
-    if (code == 0)
-        take_mark(mark);
-    faults = (guarded_moved(&states) ? STATE_MOVED : 0) | (guarded_moved(&marks) ? ANSWER_MOVED : 0);
-    reply(&code, sizeof code);
-    reply(&faults, 1);
-    reply(mark, MARK);
-}
-
-/* The mark of the state as it is; bytes that are no mark's where it is refused. */
-static void reply_mark(void)
-{
-    struct mark_call call = {part, state_bytes, MARK};
-    uint8_t mark[MARK];
-    high_water(&call);
-    take_mark(mark);
-    reply(mark, MARK);
-}
-
 /* Samples in a row, each given with a mark: whether the memory is to be compared too, which the caller asks for where it
-   expects a refusal. The reply to each is the number and either the answer or what moved, then the high-water mark. */
+   expects a refusal. The reply to each is the number and either the answer or what moved. */
 static void samples_in_a_row(void)
 {
     struct call call = {part, {0}, RECORD, state_bytes, fifo_memory_bytes(part), ANSWER};
@@ -218,7 +173,6 @@ static void samples_in_a_row(void)
                       (watch_memory && guarded_moved(memory) ? MEMORY_MOVED : 0) |
                       (memcmp(answer, filled, ANSWER) != 0 ? ANSWER_MOVED : 0);
         reply(told, sizeof told);
-        reply_mark();
     }
 }
 
@@ -282,7 +236,6 @@ static void obey(int command)
     case 'R': samples_in_a_row(); break;
     case 'M': reply(memory_now(), fifo_memory_bytes(part)); break;
     case 'W': watched_call(); break;
-    case 'H': watched_mark(); break;
     case 'U': watched_power_up(); break;
     case 'S': memcpy(saved_state, state_now(), state_bytes); break;
     case 'B': memcpy(state_now(), saved_state, state_bytes); break;
@@ -306,9 +259,6 @@ int main(void)
     memories[0] = guarded_new(fifo_memory_bytes(255));
     memories[1] = guarded_new(fifo_memory_bytes(265));
     rooms = guarded_new(ANSWER);
-    marks = guarded_new(MARK);
-    memset(marks.start, FILLED, marks.room);
-    guarded_keep(&marks);
     saved_state = malloc(state_bytes);
     last_state = malloc(state_bytes);
     if (saved_state == NULL || last_state == NULL)

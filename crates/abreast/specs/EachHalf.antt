@@ -1,7 +1,6 @@
--- Order 1: each half of a pair is where its records of the samples taken lead the single part by itself; so what is proved of a part is true of it:
--- demands 2 and 3, and its high-water mark (order 6), for either part number, any words in the two memories at power-up and any
+-- Order 1: each half of a pair is a part. Demands 2 and 3 hold of it, for either part number, any words in the two memories at power-up and any
 -- samples, of which refused ones are skipped.
-use Rattle.std.specs.Prelude.{ℕ, Bool, List, [], ◌∷◌, ◌++◌, ◌≢◌, ◌≡◌, refl, length, take}
+use Rattle.std.specs.Prelude.{ℕ, Bool, List, ◌∷◌, ◌++◌, ◌≢◌, ◌≡◌, length, take}
 use Rattle.std.proofs.Common.{sym, ap, subst, ◌∙◌}
 use Rattle.counts.specs.declared.part.Part.{Part}
 use Rattle.counts.specs.Part.{depth_of, number_of}
@@ -10,21 +9,29 @@ use Rattle.notes.specs.Fold.{started}
 use Rattle.pair.specs.declared.sample.Outcome.TheVariants.{Taken}
 use Rattle.pair.specs.Sample as pair
 use Rattle.halves.specs.declared.state.Halves.{Halves}
-use Rattle.halves.specs.declared.state.HighWater.{HighWater}
-use Rattle.halves.specs.State.{PoweredUp, ReadsHighWater}
+use Rattle.halves.specs.State.{PoweredUp}
 use Rattle.halves.specs.Two.{Two}
 use Rattle.pair_runs.specs.Run.{run_of}
 use Rattle.pair_work.specs.Samples.{samples_from, whole_samples}
 use Rattle.pair_work.specs.Work.{Ended}
 use Rattle.pins.specs.Record.{pins_of}
-use Rattle.history.specs.Histories.{TellsInTime, answer_in_time, answered}
-use Rattle.history.specs.HighWater.{held_after_each, largest}
-use Rattle.history.specs.OnePart.{IsPart, is_part}
+use Rattle.history.specs.Asked.{ShowsWord}
+use Rattle.history.specs.Crossing.{crossed_led, uncrossed}
+use Rattle.history.specs.Flags.{Judged, flags_judged}
+use Rattle.history.specs.Histories.{Kept, TellsInTime, Waiting, answer_in_time, answered, in_time_through, kept}
 use Rattle.history.specs.Trace.{Answers, Moment, led, next, outcome, power_up}
 use Rattle.abreast.specs.Abreast.{Records}
-use Rattle.abreast.specs.Pairing.{Pairing, halves_of, lefts, memories_of, pair_led, pair_next, pair_outcome, powered_both, rights, taken_of}
+use Rattle.abreast.specs.Pairing.{Pairing, halves_of, lefts, memories_of, pair_led, pair_outcome, powered_both, rights, taken_of}
 use Rattle.abreast.specs.PairingLaws.{halves_led, pair_not_three, paired_led, paired_powered, taken_each}
 use Rattle.abreast.specs.RunLaws.{run_led, run_not_three}
+
+-- A half that is where its records of the samples taken lead the single part by itself; and so what is proved of a part is true of it.
+pub record IsPart (part : Part) (memory records : List ℕ) (half : Moment) : Type 0 where
+  pub same : half ≡ led part (power_up memory) records
+  pub kept : Kept part half
+  pub in_time : (earlier : List ℕ) (x : ℕ) (later : List ℕ) → records ≡ earlier ++ (x ∷ later)
+      → Waiting 3 4 part (led part (power_up memory) earlier) x later → ShowsWord part half
+  pub judged : Judged part half (crossed_led part (power_up memory) records uncrossed)
 
 -- The answer of a half to a sample that the pair takes is that part's answer, and tells in time.
 pub record AnswersAsPart (part : Part) (memory records : List ℕ) (half : Moment) (x answer : ℕ) : Type 0 where
@@ -36,6 +43,15 @@ pub record AnswersAsPart (part : Part) (memory records : List ℕ) (half : Momen
 pub begins_powered : (memory : Two (List ℕ)) (h : Halves) → PoweredUp h → h ≡ halves_of (powered_both memory)
 unfolding powered_both power_up
 begins_powered memory h e = e
+
+is_part : (part : Part) (memory : List ℕ) → length memory ≡ depth_of part → (records : List ℕ) (half : Moment) → half ≡ led part (power_up memory) records
+    → IsPart part memory records half
+is_part part memory whole records half e = record {
+  same = e;
+  kept = subst (Kept part) (sym e) (kept part memory whole records);
+  in_time = λ earlier x later f w. subst (ShowsWord part) (sym e) (in_time_through part memory whole records earlier x later f w);
+  judged = subst (λ (m : Moment). Judged part m (crossed_led part (power_up memory) records uncrossed)) (sym e) (flags_judged part memory whole records);
+}
 
 answers_as_part : (part : Part) (memory : List ℕ) → length memory ≡ depth_of part → (records : List ℕ) (half : Moment) → half ≡ led part (power_up memory) records
     → (x answer : ℕ) → (outcome part half x).sampled.outcome ≡ fifo.Taken answer → AnswersAsPart part memory records half x answer
@@ -87,30 +103,3 @@ module _ (part : Part) (memory : Two (List ℕ)) (left : length memory.left ≡ 
 
     pub run_never_three : run.refusal ≢ 3
     run_never_three = run_not_three part there (paired_led part samples (powered_both memory) (paired_powered part memory left right)) lenient bytes answers marks
-
-led_parts : (part : Part) (earlier later : List Records) (b : Pairing) → pair_led part b (earlier ++ later) ≡ pair_led part (pair_led part b earlier) later
-unfolding pair_led
-led_parts part [] later b = refl
-led_parts part (x ∷ earlier) later b = led_parts part earlier later (pair_next part b x)
-
--- After such a run each half's high-water mark (order 6) is that of its own records in all samples taken: the mark that `high_water` reads.
-module _ (part : Part) (memory : Two (List ℕ)) (left : length memory.left ≡ depth_of part) (right : length memory.right ≡ depth_of part)
-    (samples : List Records) (lenient : Bool) (bytes answers marks : List ℕ) where
-  abbrev ended : Ended
-  ended = run part memory left right samples lenient bytes answers marks
-
-  abbrev worked : List Records
-  worked = samples ++ take ended.index (samples_from bytes 0 (whole_samples bytes))
-
-  abbrev records : List Records
-  records = taken_of part (powered_both memory) worked
-
-  pub run_high_water : (m : HighWater) → ReadsHighWater ended.progress.state m
-      → (m.left ≡ largest (held_after_each part memory.left (lefts records))) × (m.right ≡ largest (held_after_each part memory.right (rights records)))
-  run_high_water m e =
-      let halves = (run_leads part memory left right samples lenient bytes answers marks).0 in
-      let there = halves ∙ ap halves_of (sym (led_parts part samples (take ended.index (samples_from bytes 0 (whole_samples bytes))) (powered_both memory))) in
-      let each = each_half part memory left right worked in (
-        ap (λ (w : HighWater). w.left) e ∙ ap (λ (h : Halves). h.left.peak) there ∙ each.0.high_water,
-        ap (λ (w : HighWater). w.right) e ∙ ap (λ (h : Halves). h.right.peak) there ∙ each.1.high_water,
-      )

@@ -5,7 +5,7 @@ use Rattle.std.proofs.Math.Bool.{true, false}
 use Rattle.std.proofs.Math.Path.{refl, ap}
 use Rattle.std.proofs.Common.{subst, ◌∙◌}
 use Rattle.std.proofs.lemmas.List.{length-replicate, replicate-append-replicate}
-use borrow.Author.Tests.{le-ltb, lt-ltb, ne_eqb}
+use borrow.Author.Tests.{ne_eqb}
 use native.Mathlib.Omega.{arith}
 use Rattle.chip.specs.declared.state.State.{State}
 use Rattle.chip.specs.Reset.{selected_mode}
@@ -87,7 +87,6 @@ filled_state fwft level k = record {
   offsets = defaults false;
   reading = ended N;
   enables = record { rt = true; ren = true; wen = not level; clean = true };
-  peak = k;
 }
 
 -- after a Master Reset into a mode and so many writes, by the level of WCLK
@@ -103,10 +102,6 @@ set_zero (suc n) (suc i) = ap (λ (l : List ℕ). 0 ∷ l) (set_zero n i)
 memory_kept : (i : ℕ) → set zeros i 0 ≡ zeros
 unfolding zeros
 memory_kept = set_zero 8192
-
--- words held after so many writes, which none of them has gone beyond
-held_all : (k : ℕ) → k ≤ 8192 → (k + 65536) % 65536 ≡ k
-held_all k within = omega arith
 
 taken_to : (part : Part) (m after : Moment) (x : ℕ) (t : TrueCounts) → Told part m t → eqb (record_refusal part x m.state) 0 ≡ true
     → moved_on part m (pins_of x) ≡ after
@@ -137,15 +132,13 @@ module _ (k : ℕ) (within : k < 8192) where
 
   write_moved : (fwft : Bool) → moved_on part255 (filled_at fwft false k) (pins_of zero_written) ≡ filled_at fwft true (suc k)
   unfolding worked
-  write_moved false =
-      rw (not_full false, next_count, never_last, one_zero_more, memory_kept (k % 8192), held_all (suc k) (omega arith), lt-ltb k (suc k) (omega arith)) refl
-  write_moved true =
-      rw (not_full true, next_count, never_last, one_zero_more, memory_kept (k % 8192), held_all (suc k) (omega arith), lt-ltb k (suc k) (omega arith)) refl
+  write_moved false = rw (not_full false, next_count, never_last, one_zero_more, memory_kept (k % 8192)) refl
+  write_moved true = rw (not_full true, next_count, never_last, one_zero_more, memory_kept (k % 8192)) refl
 
-fall_moved : (fwft : Bool) (k : ℕ) → k ≤ 8192 → moved_on part255 (filled_at fwft true k) (pins_of wclk_fallen) ≡ filled_at fwft false k
+fall_moved : (fwft : Bool) (k : ℕ) → moved_on part255 (filled_at fwft true k) (pins_of wclk_fallen) ≡ filled_at fwft false k
 unfolding worked
-fall_moved false k within = rw (held_all k within, le-ltb k k (omega arith)) refl
-fall_moved true k within = rw (held_all k within, le-ltb k k (omega arith)) refl
+fall_moved false k = refl
+fall_moved true k = refl
 
 module _ (fwft : Bool) where
   -- what is seen from there on
@@ -158,7 +151,7 @@ module _ (fwft : Bool) where
   seen_more later zero k t g within = let same : k ≡ k + 0 = omega arith in ap (λ (n : ℕ). seen_filled n later) same
   seen_more later (suc n) k t g within =
       let written = taken_to part255 (filled_at fwft false k) (filled_at fwft true (suc k)) zero_written t g (unfold worked in refl) (write_moved k (omega arith) fwft) in
-      let fallen = taken_to part255 (filled_at fwft true (suc k)) (filled_at fwft false (suc k)) wclk_fallen _ written.2 (unfold worked in refl) (fall_moved fwft (suc k) (omega arith)) in
+      let fallen = taken_to part255 (filled_at fwft true (suc k)) (filled_at fwft false (suc k)) wclk_fallen _ written.2 (unfold worked in refl) (fall_moved fwft (suc k)) in
       let same : suc k + n ≡ k + suc n = omega arith in
       rw (written.0, written.1, fallen.0, fallen.1, room_shown k (omega arith) fwft)
       (seen_more later n (suc k) _ fallen.2 (omega arith) ∙ ap (λ (n : ℕ). seen_filled n later) same)

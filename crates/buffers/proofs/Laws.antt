@@ -1,6 +1,6 @@
 -- What the proofs of functions put together, over what the functions called gave: mostly a law for each way out.
 use Prim.Native.Nat.{ℕ, ◌+◌, ◌*◌, ◌<◌}
-use mathlib.Core.Bool.{Bool, true, false}
+use mathlib.Core.Bool.{Bool, true, false, ◌&&◌}
 use mathlib.Core.List.{List}
 use mathlib.Core.Path.{◌≡◌, refl, subst, ◌∙◌}
 use lib.ListN.{length}
@@ -8,22 +8,28 @@ use native.Mathlib.Omega.{arith}
 use Rattle.buffers.specs.declared.verdict.Verdict.{Verdict}
 use Rattle.buffers.specs.declared.verdict.Verdict.TheVariants.{Refuse}
 use Rattle.buffers.specs.Memory.{Within, word_size}
-use Rattle.buffers.specs.Verdict.{is_state, judged, on_record, on_state, roomy}
+use Rattle.buffers.specs.Verdict.{judged, on_record, on_state, roomy}
 use Rattle.chip.specs.declared.advance.Store.{Store}
 use Rattle.chip.specs.declared.advance.Store.TheVariants.{Put}
+use Rattle.chip.specs.declared.state.State.{State}
+use Rattle.chip.specs.State.{passes}
 use Rattle.counts.specs.declared.part.Lookup.{Lookup}
 use Rattle.counts.specs.declared.part.Lookup.TheVariants.{Known, Unknown}
 use Rattle.counts.specs.declared.part.Part.{Part}
 use Rattle.counts.specs.Part.{part_of}
+use Rattle.spelling.specs.Spelling.{spells, state_in}
 
-module _ (part : Part) (bytes state : List ℕ) {told : Bool} (e : told ≡ is_state part state) where
-  pub state_fails : told ≡ false → Refuse 3 ≡ on_state part bytes state
-  unfolding on_state
-  state_fails fails = rw (← e, fails) refl
+module _ (part : Part) (bytes state : List ℕ) {s : State} {spelled passed : Bool} (e : spelled ≡ spells state) (made : s ≡ state_in state) (f : passed ≡ passes part s) where
+  as_told : (spelled && passed) ≡ (spells state && passes part (state_in state))
+  as_told = rw (← e, ← made, ← f) refl
 
-  pub state_passes : {v : Verdict} → told ≡ true → v ≡ on_record part bytes → v ≡ on_state part bytes state
+  pub state_fails : (spelled && passed) ≡ false → Refuse 3 ≡ on_state part bytes state
   unfolding on_state
-  state_passes holds g = g ∙ rw (← e, holds) refl
+  state_fails fails = rw (← as_told, fails) refl
+
+  pub state_passes : {v : Verdict} → (spelled && passed) ≡ true → v ≡ on_record part bytes → v ≡ on_state part bytes state
+  unfolding on_state
+  state_passes holds g = g ∙ rw (← as_told, holds) refl
 
 module _ (number : ℕ) (bytes state : List ℕ) (memory answer : ℕ) {looked : Lookup} (e : looked ≡ part_of number) where
   pub judged_unknown : looked ≡ Unknown → Refuse 1 ≡ judged number bytes state memory answer

@@ -31,13 +31,9 @@ pub record Ready (part : Part) (state : List ℕ) (memory answer : ℕ) : Type 0
 unfoldable pub on_record : Part → List ℕ → Verdict
 on_record part bytes = cond (eqb (length bytes) word_size) (Work part (word_at bytes 0)) (Refuse 4)
 
--- bytes that spell a state which passes its test
-abbrev pub is_state : Part → List ℕ → Bool
-is_state part state = spells state && passes part (state_in state)
-
 -- 3 where the bytes spell no state, and where the state fails its test
 unfoldable pub on_state : Part → List ℕ → List ℕ → Verdict
-on_state part bytes state = cond (is_state part state) (on_record part bytes) (Refuse 3)
+on_state part bytes state = cond (spells state && passes part (state_in state)) (on_record part bytes) (Refuse 3)
 
 -- 1, 2, 3 and 4, on the record, the state and two lengths
 unfoldable pub judged : ℕ → List ℕ → List ℕ → ℕ → ℕ → Verdict

@@ -44,11 +44,11 @@ abbrev Clears : ℕ → List ℕ → List ℕ → ℕ → ℕ → Verdict → Ty
 Clears number bytes state memory answer (Work part x) = Cleared number bytes state memory answer part x
 Clears number bytes state memory answer (Refuse refusal) = Unit {0}
 
-pub when : {A : Type 0} (P : A → Type 0) (test : Bool) (x y : A) → (test ≡ true → P x) → P y → P (cond test x y)
+when : {A : Type 0} (P : A → Type 0) (test : Bool) (x y : A) → (test ≡ true → P x) → P y → P (cond test x y)
 when P true x y f g = f refl
 when P false x y f g = g
 
-pub when_known : {A : Type 0} (P : A → Type 0) (looked : Lookup) (f : Part → A) (y : A) → ((part : Part) → looked ≡ Known part → P (f part)) → P y → P (by_part looked f y)
+when_known : {A : Type 0} (P : A → Type 0) (looked : Lookup) (f : Part → A) (y : A) → ((part : Part) → looked ≡ Known part → P (f part)) → P y → P (by_part looked f y)
 when_known P (Known part) f y g h = g part refl
 when_known P Unknown f y g h = h
 

@@ -1,7 +1,7 @@
 // What is turned away, for the C call: 1 to 4 in a verdict, and the refusals of a record of four bytes.
 ghost use Rattle.fifo.specs.Sample.{record_refusal};
 ghost use Rattle.fifo.specs.Still.{still};
-ghost use Rattle.buffers.specs.Verdict.{is_state, judged, on_record, on_state, roomy};
+ghost use Rattle.buffers.specs.Verdict.{judged, on_record, on_state, roomy};
 ghost use Rattle.spelling.specs.Spelling.{state_bytes, state_in};
 ghost use Rattle.std.specs.Prelude.{length, ◌≡◌};
 
@@ -42,20 +42,13 @@ fn judge_state(part: Part, record: &[u8], state: &[u8]) -> Verdict
     requires { length state.now ≡ state_bytes }
     ensures { result ≡ on_state part «record».now state.now }
 {
-    if is_state(part, state) {
+    let spelled = spelling::state::spells_state(state);
+    let passed = chip::state::passes_test(part, spelling::state::read_state(state));
+    if spelled & passed {
         judge_record(part, record)
     } else {
         Verdict::Refuse(3)
     }
-}
-
-pub fn is_state(part: Part, state: &[u8]) -> bool
-    requires { length state.now ≡ state_bytes }
-    ensures { result ≡ is_state part state.now }
-{
-    let spelled = spelling::state::spells_state(state);
-    let passed = chip::state::passes_test(part, spelling::state::read_state(state));
-    spelled & passed
 }
 
 fn judge_record(part: Part, record: &[u8]) -> Verdict

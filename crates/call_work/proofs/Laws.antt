@@ -16,7 +16,6 @@ use Rattle.chip.specs.Laws.{store_placed}
 use Rattle.chip.specs.Enables.{enables_after}
 use Rattle.chip.specs.Quiet.{held}
 use Rattle.chip.specs.QuietLaws.{quiet_advanced}
-use Rattle.chip.specs.State.{passes}
 use Rattle.counts.specs.declared.part.Part.{Part}
 use Rattle.counts.specs.Part.{depth_of}
 use Rattle.counts.specs.Round.{place_of}
@@ -70,8 +69,8 @@ pub answer_given : (part : Part) (x : ℕ) (state answer : List ℕ) {p : Pins} 
 answer_given part x state answer decoded read found put = put ∙ rw (found, read, decoded) refl
 
 -- only what is remembered of the pins is other bytes than before
-pub remembered_held : (part : Part) (x : ℕ) (state : List ℕ) {p : Pins} {s : State} {enables : Enables} {state' : List ℕ} → length state ≡ state_bytes → Bytes state → spells state ≡ true
-    → passes part (state_in state) ≡ true → p ≡ pins_of x → s ≡ state_in state → enables ≡ enables_after p s.enables → state' ≡ put_remembered p.wclk p.rclk enables state
+pub remembered_held : (x : ℕ) (state : List ℕ) {p : Pins} {s : State} {enables : Enables} {state' : List ℕ} → length state ≡ state_bytes → Bytes state → spells state ≡ true
+    → p ≡ pins_of x → s ≡ state_in state → enables ≡ enables_after p s.enables → state' ≡ put_remembered p.wclk p.rclk enables state
     → state' ≡ spelling (held (pins_of x) (state_in state))
-remembered_held part x state {p = p} {enables = enables} room small own passed decoded read moved put =
-    put ∙ ap (put_remembered p.wclk p.rclk enables) (sym (written_back state room small own)) ∙ rw (moved, read, decoded) (remembered_put part (pins_of x) (state_in state) passed)
+remembered_held x state {p = p} {enables = enables} room small own decoded read moved put =
+    put ∙ ap (put_remembered p.wclk p.rclk enables) (sym (written_back state room small own)) ∙ rw (moved, read, decoded) (remembered_put (pins_of x) (state_in state))

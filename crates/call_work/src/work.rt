@@ -1,7 +1,6 @@
 // Bench figures: the work of a call from C on a record that may be worked, in the caller's own bytes.
 ghost use Rattle.chip.specs.Answer.{answer_of};
 ghost use Rattle.chip.specs.Quiet.{held};
-ghost use Rattle.chip.specs.State.{passes};
 ghost use Rattle.buffers.specs.Verdict.{Ready, answer_bytes};
 ghost use Rattle.call_work.specs.Work.{Gives, taken, worked};
 ghost use Rattle.spelling.specs.Spelling.{spelling, spells, state_bytes, state_in};
@@ -24,11 +23,10 @@ pub fn work(part: Part, word: u32, state: &mut [u8], memory: &mut [u8], answer: 
     }
 }
 
-// Only what is remembered of the pins changes, and since the state has passed 3 not its high-water mark: it need not be written anew.
+// Only what is remembered of the pins changes: the state need not be written anew.
 fn hold(part: Part, word: u32, state: &mut [u8], answer: &mut [u8])
     requires state_len { length state.old ≡ state_bytes }
     requires state_value { spells state.old ≡ true }
-    requires state_value_2 { passes part (state_in state.old) ≡ true }
     requires answer_len { length answer.old ≡ answer_bytes }
     ensures spelled { state.new ≡ spelling (held (pins_of word) (state_in state.old)) }
     ensures answered { answer.new ≡ put_answer answer.old 0 (answer_of part (pins_of word) (state_in state.old)) }

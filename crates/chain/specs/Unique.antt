@@ -5,7 +5,6 @@ use Rattle.std.proofs.Common.{sym, ◌∙◌}
 use Rattle.chain_runs.specs.declared.run.Report.{Report}
 use Rattle.chip.specs.declared.state.State.{State}
 use Rattle.fifo.specs.declared.sample.Outcome.{Outcome}
-use Rattle.rows.specs.Row.{high_waters, row_of}
 use Rattle.chain.specs.Chain.{Runs, Samples}
 
 pub sample_unique : (number : ℕ) (bytes : List ℕ) (states : List State) (memory : List ℕ) (a b : Outcome) (s t : List State) (m n : List ℕ)
@@ -23,6 +22,3 @@ run_unique lenient number bytes states memory answers marks a b s t m n k l i j 
   f.room ∙ sym g.room,
   f.marked ∙ sym g.marked,
 )
-
-pub high_water_unique : (states : List State) (a b : List ℕ) → a ≡ high_waters (row_of states) → b ≡ high_waters (row_of states) → a ≡ b
-high_water_unique states a b e f = e ∙ sym f

@@ -1,7 +1,7 @@
 // Parts in a row (paper 02, order 4): the chain's list of part states, lent by the caller, one entry a part, and their memories as one slice of words,
-// each part's after the other. These five functions touch the list; all else is done on a row of states by value.
+// each part's after the other. These four functions touch the list; all else is done on a row of states by value.
 ghost use Rattle.chain.specs.Chain.{Runs, Samples};
-ghost use Rattle.rows.specs.Row.{high_waters, put_back, row_of};
+ghost use Rattle.rows.specs.Row.{put_back, row_of};
 ghost use Rattle.std.specs.Prelude.{◌≡◌};
 
 use chain_runs::run::Report;
@@ -58,12 +58,4 @@ pub fn run(
     let after = chain_runs::run::row_of(ran);
     store(states, after);
     chain_runs::run::report_of(ran)
-}
-
-// Each part's high-water mark (paper 02, order 6), read without a sample and with no test of the states; 0 at a place that no part has.
-pub fn high_water(states: &[State]) -> [u16; 8]
-    ensures { result ≡ high_waters (row_of states.now) }
-{
-    let row = load(states);
-    rows::row::high_water(row)
 }

@@ -2,24 +2,23 @@
 use Rattle.std.specs.Prelude.{ℕ, cond, ◌&&◌, List, ◌≡◌, set}
 use Rattle.counts.specs.declared.part.Part.{Part}
 use Rattle.counts.specs.Part.{depth_of}
-use Rattle.counts.specs.Round.{ahead, place_of}
+use Rattle.counts.specs.Round.{place_of}
 use Rattle.offsets.specs.Loading.{offsets_after}
 use Rattle.offsets.specs.Reading.{reading_after}
 use Rattle.pins.specs.declared.record.Pins.{Pins}
 use Rattle.pins.specs.Record.{word}
 use Rattle.sides.specs.Clocks.{read_rises, write_rises}
-use Rattle.sides.specs.Read.{read_after, read_count_after}
-use Rattle.sides.specs.Write.{accepts, write_after, write_count_after}
+use Rattle.sides.specs.Read.{read_after}
+use Rattle.sides.specs.Write.{accepts, write_after}
 use Rattle.chip.specs.declared.advance.Advanced.{Advanced}
 use Rattle.chip.specs.declared.advance.Store.{Store}
 use Rattle.chip.specs.declared.advance.Store.TheVariants.{Keep, Put}
 use Rattle.chip.specs.declared.state.State.{State}
 use Rattle.chip.specs.Answer.{answer_of}
 use Rattle.chip.specs.Enables.{enables_after}
-use Rattle.chip.specs.HighWater.{raised}
 use Rattle.chip.specs.Reset.{master_reset, partial_reset}
 
--- outside reset: all from the state before the sample, offsets included; but the high-water mark from the counts after it
+-- outside reset: all from the state before the sample, offsets included
 unfoldable pub running : Part → Pins → ℕ → State → State
 running part p fetched s = record {
   started = s.started;
@@ -28,7 +27,6 @@ running part p fetched s = record {
   offsets = offsets_after part p (write_rises p s.write) s.offsets;
   reading = reading_after p (read_rises p s.read) s.offsets s.reading;
   enables = enables_after p s.enables;
-  peak = raised s.peak (ahead (write_count_after (depth_of part) p s.write) (read_count_after p s.read));
 }
 
 -- by the two reset pins, of which MRS decides first

@@ -1,5 +1,5 @@
--- The two sides: every count that a state holds is below the width, and stays so; likewise the high-water mark.
-use Rattle.std.specs.Prelude.{ℕ, ◌<◌, Bool, true, false, cond, ltb}
+-- The two sides: every count that a state holds is below the width, and stays so.
+use Rattle.std.specs.Prelude.{ℕ, ◌<◌, Bool, true, false, cond}
 use Rattle.std.proofs.Common.{arith}
 use Rattle.counts.specs.declared.part.Part.{Part}
 use Rattle.counts.specs.declared.round.ReadCount.{ReadCount}
@@ -22,7 +22,6 @@ use Rattle.views.specs.Stages.{latest_read, latest_write, taken_read, taken_writ
 use Rattle.chip.specs.declared.enables.Enables.{Enables}
 use Rattle.chip.specs.declared.state.State.{State}
 use Rattle.chip.specs.Advance.{advanced, running, state_after}
-use Rattle.chip.specs.HighWater.{raised}
 use Rattle.chip.specs.Reset.{cleared, master_reset, partial_reset, powered_up}
 
 abbrev pub ReadBelow : ReadCount → Type 0
@@ -49,7 +48,6 @@ pub record Counted (s : State) : Type 0 where
   pub read_first : WriteBelow s.read.first
   pub read_second : WriteBelow s.read.second
   pub read_latest : WriteRemembered s.read.latest
-  pub peak : s.peak < width
 
 next_below : (moves : Bool) (count : ℕ) → count < width → cond moves (more width count) count < width
 next_below true count below = omega arith
@@ -76,7 +74,7 @@ write_remembered true false count latest below held = tt
 write_remembered false false count latest below held = held
 
 running_counted : (part : Part) (p : Pins) (fetched : ℕ) (s : State) → Counted s → Counted (running part p fetched s)
-unfolding running raised write_after write_count_after second_after_write read_after read_count_after second_after_read
+unfolding running write_after write_count_after second_after_write read_after read_count_after second_after_read
 running_counted part p fetched s c = record {
   write = next_below (accepts (depth_of part) p s.write) s.write.count.0 c.write;
   write_first = either ReadBelow (write_rises p s.write) _ _ (read_taken p.skew.write s.write.latest s.read.count c.write_latest c.read) c.write_first;
@@ -86,7 +84,6 @@ running_counted part p fetched s c = record {
   read_first = either WriteBelow (read_rises p s.read) _ _ (write_taken p.skew.read s.read.latest s.write.count c.read_latest c.write) c.read_first;
   read_second = either WriteBelow (read_rises p s.read) _ _ c.read_first c.read_second;
   read_latest = write_remembered (read_rises p s.read) (write_rises p s.write) s.write.count s.read.latest c.write c.read_latest;
-  peak = either (λ (n : ℕ). n < width) (ltb s.peak _) _ s.peak (omega arith) c.peak;
 }
 
 cleared_counted : (started wclk rclk : Bool) (mode : Mode) (offsets : Offsets) (reading : Reading) (enables : Enables)

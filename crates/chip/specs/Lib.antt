@@ -1,10 +1,8 @@
 pub mod State
 pub mod Enables
-pub mod HighWater
 pub mod Reset
 pub mod Answer
 pub mod Advance
-pub mod HighWaterLaws
 pub mod Quiet
 pub mod QuietLaws
 pub mod Widths

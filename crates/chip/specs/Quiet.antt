@@ -1,13 +1,10 @@
--- A sample outside reset in which no clock rises: the state with what is remembered of the pins. A high-water mark below the words held is raised, which
--- no state that passes 3 has.
+-- A sample outside reset in which no clock rises: the state with what is remembered of the pins.
 use Rattle.std.specs.Prelude.{Bool, not, ◌&&◌, ◌||◌}
 use Rattle.pins.specs.declared.record.Pins.{Pins}
 use Rattle.sides.specs.Clocks.{read_rises, write_rises}
 use Rattle.sides.specs.Held.{held_read, held_write}
 use Rattle.chip.specs.declared.state.State.{State}
 use Rattle.chip.specs.Enables.{enables_after}
-use Rattle.chip.specs.HighWater.{raised}
-use Rattle.chip.specs.State.{words_held}
 
 abbrev pub clock_rises : Pins → State → Bool
 clock_rises p s = write_rises p s.write || read_rises p s.read
@@ -23,5 +20,4 @@ held p s = record {
   offsets = s.offsets;
   reading = s.reading;
   enables = enables_after p s.enables;
-  peak = raised s.peak (words_held s);
 }

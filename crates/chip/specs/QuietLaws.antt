@@ -1,4 +1,4 @@
--- A sample outside reset in which no clock rises: only what is remembered of the pins changes, but for a mark below the words held.
+-- A sample outside reset in which no clock rises: only what is remembered of the pins changes.
 use Rattle.std.specs.Prelude.{ℕ, Bool, true, false, not, ◌&&◌, ◌||◌, ◌≡◌, refl}
 use Rattle.std.proofs.Math.Bool.{and-eq-true_iff, and-false}
 use Rattle.std.proofs.lemmas.Bool.{not-true}
@@ -8,7 +8,7 @@ use Rattle.offsets.specs.Loading.{offsets_after}
 use Rattle.offsets.specs.Reading.{reading_after}
 use Rattle.pins.specs.declared.record.Pins.{Pins}
 use Rattle.sides.specs.Clocks.{read_rises, write_rises}
-use Rattle.sides.specs.HeldLaws.{read_held, read_stands, write_held, write_stands}
+use Rattle.sides.specs.HeldLaws.{read_held, write_held}
 use Rattle.sides.specs.Read.{ready, retransmits, sees_word}
 use Rattle.sides.specs.Write.{accepts, full}
 use Rattle.chip.specs.declared.advance.Store.TheVariants.{Keep}
@@ -32,7 +32,7 @@ no_rise p s e = let both = no_rise_by (write_rises p s.write) (read_rises p s.re
 running_held : (part : Part) (p : Pins) (fetched : ℕ) (s : State) → NoRise p s → running part p fetched s ≡ held p s
 unfolding running held offsets_after reading_after retransmits
 running_held part p fetched s e =
-    simp (write_stands (depth_of part) p s.write e.write, read_stands p s.read e.read, write_held (depth_of part) s.offsets.m p s.read s.write e.write, read_held s.offsets.n p fetched s.write s.read e.read, e.write, e.read)
+    simp (write_held (depth_of part) s.offsets.m p s.read s.write e.write, read_held s.offsets.n p fetched s.write s.read e.read, e.write, e.read)
 
 answer_held : (part : Part) (p : Pins) (s : State) → answer_of part p (held p s) ≡ answer_of part p s
 unfolding answer_of lines_of held full ready sees_word

@@ -44,7 +44,6 @@ cleared started wclk rclk mode offsets reading enables = record {
   offsets = offsets;
   reading = reading;
   enables = enables;
-  peak = 0;
 }
 
 -- by FWFT at a Master Reset

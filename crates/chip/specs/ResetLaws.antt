@@ -76,8 +76,7 @@ pub stays_fwft : (mode : Mode) (retransmitted delivered taken : Bool) → is_fwf
 stays_fwft Standard retransmitted delivered taken = refl
 stays_fwft (Fwft untaken) retransmitted delivered taken = refl
 
--- whatever the clocks do in it, a reset leaves their levels, no count, no stage, nothing remembered of a rise, no retransmit in progress and a high-water
--- mark of 0
+-- whatever the clocks do in it, a reset leaves their levels, no count, no stage, nothing remembered of a rise and no retransmit in progress
 pub record Cleared (p : Pins) (after : State) : Type 0 where
   pub wclk : after.write.level ≡ p.wclk
   pub rclk : after.read.level ≡ p.rclk
@@ -87,7 +86,6 @@ pub record Cleared (p : Pins) (after : State) : Type 0 where
   pub latest : (after.write.latest ≡ readRise.NoneSince) × (after.read.latest ≡ writeRise.NoneSince)
   pub retransmit : (after.write.view ≡ Seen) × (after.read.setup ≡ Over)
   pub output : after.read.output ≡ 0
-  pub peak : after.peak ≡ 0
 
 all_cleared : (p : Pins) (started : Bool) (mode : Mode) (o : Offsets) (reading : Reading) (enables : Enables)
     → Cleared p (cleared started p.wclk p.rclk mode o reading enables)
@@ -101,7 +99,6 @@ all_cleared p started mode o reading enables = record {
   latest = (refl, refl);
   retransmit = (refl, refl);
   output = refl;
-  peak = refl;
 }
 
 reset_by : (P : State → Type 0) (mrs prs : Bool) (run kept fresh : State) → mrs && prs ≡ false → P kept → P fresh → P (cond mrs (cond prs run kept) fresh)

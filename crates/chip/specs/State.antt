@@ -16,8 +16,7 @@ widths part s = fit part s.offsets && shown_fits part s.reading.shows && is_word
 abbrev pub words_held : State → ℕ
 words_held s = ahead s.write.count s.read.count
 
--- on counts: what lies between the write count and the read count, and between it and each stage; and the high-water mark, by the depth and the words
--- now held
+-- on counts: what lies between the write count and the read count, and between it and each stage
 unfoldable pub in_reach : ℕ → State → Bool
 in_reach depth s =
     leb (words_held s) depth
@@ -26,8 +25,6 @@ in_reach depth s =
     && leb (behind s.write.count s.read.first) depth
     && leb (behind s.write.count s.read.second) depth
     && leb (behind s.write.count s.read.second) (words_held s)
-    && leb s.peak depth
-    && leb (words_held s) s.peak
 
 -- not refused 3
 unfoldable pub passes : Part → State → Bool

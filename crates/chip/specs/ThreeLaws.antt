@@ -1,8 +1,6 @@
 -- What is turned away, 3: a state passes exactly where each clause of the row holds of it.
-use Rattle.std.specs.Prelude.{ℕ, ◌^◌, ◌≤◌, ◌<◌, Bool, true, false, ◌&&◌, ◌≡◌, refl, leb}
-use Rattle.std.proofs.Math.Bool.{and-false, and-true}
+use Rattle.std.specs.Prelude.{ℕ, ◌^◌, ◌≤◌, ◌<◌, true, ◌≡◌, refl}
 use borrow.Author.Tests.{le-leb, leb-true, lt-ltb, ltb-true}
-use Rattle.std.proofs.Common.{arith}
 use Rattle.counts.specs.declared.part.Part.{Part}
 use Rattle.counts.specs.Both.{both}
 use Rattle.counts.specs.Part.{depth_of, offset_bits}
@@ -11,27 +9,9 @@ use Rattle.offsets.specs.declared.reading.Shows.TheVariants.{Register, Offset}
 use Rattle.offsets.specs.Fits.{Fits, fits, fitting}
 use Rattle.offsets.specs.Reading.{shown_fits}
 use Rattle.chip.specs.declared.state.State.{State}
-use Rattle.chip.specs.HighWater.{raised}
-use Rattle.chip.specs.HighWaterLaws.{not_raised}
 use Rattle.chip.specs.Levels.{less_round}
-use Rattle.chip.specs.State.{in_reach, passes, widths, words_held}
+use Rattle.chip.specs.State.{in_reach, passes, widths}
 use Rattle.chip.specs.Widths.{apart}
-
--- three tests one after the other say two more: what is at most the second, and that at most the third, is at most the last
-in_turn_by : (a b c d : ℕ) (first second third x y z : Bool) → leb a b ≡ first → leb b c ≡ second → leb c d ≡ third
-    → (first && second && third && x && y && z) ≡ (leb b d && x && y && z && leb a d && first && third && second)
-in_turn_by a b c d true true true x y z e f g =
-    let p = leb-true a b e in
-    let q = leb-true b c f in
-    let r = leb-true c d g in
-    simp (le-leb b d (omega arith), le-leb a d (omega arith), and-true)
-in_turn_by a b c d true true false x y z e f g = simp (and-false)
-in_turn_by a b c d true false third x y z e f g = simp (and-false)
-in_turn_by a b c d false second third x y z e f g = simp (and-false)
-
-pub in_turn : (a b c d : ℕ) (x y z : Bool)
-    → (leb a b && leb b c && leb c d && x && y && z) ≡ (leb b d && x && y && z && leb a d && leb a b && leb c d && leb b c)
-in_turn a b c d x y z = in_turn_by a b c d (leb a b) (leb b c) (leb c d) x y z refl refl refl
 
 -- the offset shown, while it is
 abbrev pub ShownBelow : ℕ → Shows → Type 0
@@ -48,9 +28,6 @@ pub record Passing (part : Part) (s : State) : Type 0 where
   pub read_first : less_round s.write.count.0 s.read.first.0 ≤ depth_of part
   pub read_second : less_round s.write.count.0 s.read.second.0 ≤ depth_of part
   pub not_behind : less_round s.write.count.0 s.read.second.0 ≤ less_round s.write.count.0 s.read.count.0
-  -- the high-water mark, paper 02, order 6
-  pub not_above : s.peak ≤ depth_of part
-  pub not_below : less_round s.write.count.0 s.read.count.0 ≤ s.peak
 
 shown_below : (part : Part) (shows : Shows) → shown_fits part shows ≡ true → ShownBelow (2 ^ offset_bits part) shows
 shown_below part Register e = tt
@@ -66,9 +43,7 @@ module _ (part : Part) (s : State) where
   three_spares e =
       let all = both (widths part s) (in_reach (depth_of part) s) e in
       let narrow = apart part s all.0 in
-      let not_below = both _ _ all.1 in
-      let not_above = both _ _ not_below.0 in
-      let not_behind = both _ _ not_above.0 in
+      let not_behind = both _ _ all.1 in
       let read_second = both _ _ not_behind.0 in
       let read_first = both _ _ read_second.0 in
       let write_second = both _ _ read_first.0 in
@@ -83,13 +58,7 @@ module _ (part : Part) (s : State) where
         read_first = leb-true _ _ read_first.1;
         read_second = leb-true _ _ read_second.1;
         not_behind = leb-true _ _ not_behind.1;
-        not_above = leb-true _ _ not_above.1;
-        not_below = leb-true _ _ not_below.1;
       }
-
-  -- such a state keeps its high-water mark where no word comes and none goes
-  pub tested_peak : passes part s ≡ true → raised s.peak (words_held s) ≡ s.peak
-  tested_peak e = not_raised s.peak (words_held s) (three_spares e).not_below
 
   pub three_takes_no_other : Passing part s → passes part s ≡ true
   unfolding passes widths in_reach
@@ -104,6 +73,4 @@ module _ (part : Part) (s : State) where
         le-leb (less_round s.write.count.0 s.read.first.0) (depth_of part) h.read_first,
         le-leb (less_round s.write.count.0 s.read.second.0) (depth_of part) h.read_second,
         le-leb (less_round s.write.count.0 s.read.second.0) (less_round s.write.count.0 s.read.count.0) h.not_behind,
-        le-leb s.peak (depth_of part) h.not_above,
-        le-leb (less_round s.write.count.0 s.read.count.0) s.peak h.not_below,
       )

@@ -6,7 +6,6 @@ use Rattle.pins.specs.declared.record.Pins.{Pins}
 use Rattle.chip.specs.declared.advance.Advanced.{Advanced}
 use Rattle.chip.specs.declared.state.State.{State}
 use Rattle.chip.specs.Advance.{Advances}
-use Rattle.chip.specs.HighWater.{ReadsHighWater}
 use Rattle.chip.specs.Reset.{PoweredUp}
 use Rattle.chip.specs.State.{Tested}
 
@@ -19,6 +18,3 @@ test_unique part s a b e f = e ∙ sym f
 pub advance_unique : (part : Part) (p : Pins) (fetched : ℕ) (s : State) (a b : Advanced)
     → Advances part p fetched s a → Advances part p fetched s b → a ≡ b
 advance_unique part p fetched s a b e f = e ∙ sym f
-
-pub high_water_unique : (s : State) (a b : ℕ) → ReadsHighWater s a → ReadsHighWater s b → a ≡ b
-high_water_unique s a b e f = e ∙ sym f

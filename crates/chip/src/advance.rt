@@ -64,8 +64,6 @@ fn run(part: Part, p: Pins, fetched: u32, s: State) -> State
     let write = sides::write::write_after(part, before.n, before.m, p, s.read, s.write);
     let read = sides::read::read_after(part, before.n, before.m, p, fetched, s.write, s.read);
     let enables = super::enables::enables_after(p, s);
-    let words = counts::round::words_ahead(write.count, read.count);
-    let peak = super::high_water::raise(s.peak, words);
     State {
         started: s.started,
         write: write,
@@ -78,7 +76,6 @@ fn run(part: Part, p: Pins, fetched: u32, s: State) -> State
             wen: enables.wen,
             clean: enables.clean,
         },
-        peak: peak,
     }
 }
 

@@ -2,7 +2,6 @@
 pub mod advance;
 pub mod answer;
 pub mod enables;
-pub mod high_water;
 pub mod quiet;
 pub mod reset;
 pub mod state;

@@ -31,8 +31,6 @@ pub fn hold(p: Pins, s: State) -> State
     let offsets = s.offsets;
     let reading = s.reading;
     let enables = super::enables::enables_after(p, s);
-    let words = counts::round::words_ahead(write.count, read.count);
-    let peak = super::high_water::raise(s.peak, words);
     State {
         started: s.started,
         write: held_write,
@@ -45,6 +43,5 @@ pub fn hold(p: Pins, s: State) -> State
             wen: enables.wen,
             clean: enables.clean,
         },
-        peak: peak,
     }
 }

@@ -92,7 +92,6 @@ fn clear(
             wen: enables.wen,
             clean: enables.clean,
         },
-        peak: 0,
     }
 }
 

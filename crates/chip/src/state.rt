@@ -11,7 +11,7 @@ use offsets::registers::Offsets;
 use sides::read::{Mode, ReadSide};
 use sides::write::WriteSide;
 
-// `started` says that there has been a Master Reset; `peak` is the high-water mark (paper 02, order 6).
+// `started` says that there has been a Master Reset.
 #[derive(Drop)]
 pub struct State {
     pub started: bool,
@@ -20,7 +20,6 @@ pub struct State {
     pub offsets: Offsets,
     pub reading: Reading,
     pub enables: Enables,
-    pub peak: u16,
 }
 
 pub fn passes_test(part: Part, s: State) -> bool
@@ -39,8 +38,6 @@ fn fits_widths(part: Part, s: State) -> bool
         & pins::record::is_word(s.read.output)
 }
 
-// That the words held, and how far the read side's second stage lies behind, are within the depth follows from the mark's two bounds:
-// neither is compared.
 fn is_in_reach(part: Part, s: State) -> bool
     ensures { result ≡ in_reach (depth_of part) s }
 {
@@ -48,12 +45,12 @@ fn is_in_reach(part: Part, s: State) -> bool
     let count = s.write.count;
     let held = counts::round::words_ahead(count, s.read.count);
     let second_behind = counts::round::words_behind(count, s.read.second);
-    (second_behind <= held)
-        & (held <= s.peak)
-        & (s.peak <= depth)
+    (held <= depth)
         & (counts::round::words_ahead(count, s.write.first) <= depth)
         & (counts::round::words_ahead(count, s.write.second) <= depth)
         & (counts::round::words_behind(count, s.read.first) <= depth)
+        & (second_behind <= depth)
+        & (second_behind <= held)
 }
 
 pub fn is_fwft(s: State) -> bool

@@ -1,4 +1,4 @@
--- A record that is never refused and moves no count, no flag and no word: a Master Reset before, no reset and no rise now.
+-- A record that is never refused and moves only what is remembered of the pins: a Master Reset before, no reset and no rise now.
 use Rattle.std.specs.Prelude.{ℕ, Bool, ◌&&◌}
 use Rattle.chip.specs.declared.state.State.{State}
 use Rattle.chip.specs.Quiet.{quiet}

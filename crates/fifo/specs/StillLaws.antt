@@ -1,4 +1,4 @@
--- A record that is never refused and moves no count, no flag and no word.
+-- A record that is never refused and moves only what is remembered of the pins.
 use Rattle.std.specs.Prelude.{ℕ, true, List, ◌≡◌}
 use Rattle.std.proofs.Common.{eq-eqb}
 use Rattle.chip.specs.declared.advance.Store.TheVariants.{Keep}

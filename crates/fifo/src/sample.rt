@@ -54,7 +54,7 @@ pub fn step(part: Part, record: u32, state: State, memory: &mut [u32]) -> Sample
     }
 }
 
-// Such a record is never refused and moves no count, no flag and no word: neither the refusals nor the memory need be looked at.
+// Such a record is never refused and moves only what is remembered of the pins: neither the refusals nor the memory need be looked at.
 pub fn is_still(record: u32, state: State) -> bool
     ensures { result ≡ still «record» state }
 {

@@ -1,16 +1,14 @@
 -- What the proofs of functions put together, over what the functions called gave: mostly a law for each way out.
 use Prim.Native.Nat.{ℕ}
-use mathlib.Core.Bool.{Bool, true, false}
 use mathlib.Core.List.{List}
 use mathlib.Core.Path.{◌≡◌, refl, sym, ap, ◌∙◌}
-use lib.Dec.{eqb}
 use lib.ListN.{length}
 use borrow.Author.Rules.{rules}
-use borrow.Author.Tests.{eq-eqb, eqb-true, ne_eqb}
+use borrow.Author.Tests.{eq-eqb, ne_eqb}
 use Rattle.buffers.specs.declared.verdict.Verdict.{Verdict}
 use Rattle.buffers.specs.declared.verdict.Verdict.TheVariants.{Work, Refuse}
-use Rattle.buffers.specs.Memory.{memory_bytes, word_size}
-use Rattle.buffers.specs.Verdict.{Ready, is_state, judged, number_of}
+use Rattle.buffers.specs.Memory.{memory_bytes}
+use Rattle.buffers.specs.Verdict.{Ready, judged, number_of}
 use Rattle.buffers.specs.VerdictLaws.{cleared}
 use Rattle.call_work.specs.Work.{Gives, worked}
 use Rattle.chip.specs.declared.state.State.{State}
@@ -18,12 +16,9 @@ use Rattle.chip.specs.Reset.{powered_up}
 use Rattle.counts.specs.declared.part.Lookup.{Lookup}
 use Rattle.counts.specs.declared.part.Lookup.TheVariants.{Known, Unknown}
 use Rattle.counts.specs.declared.part.Part.{Part}
-use Rattle.counts.specs.Both.{both}
 use Rattle.counts.specs.Part.{part_of}
-use Rattle.numerals.specs.Bytes.{put_word}
-use Rattle.spelling.specs.Spelling.{spelling, state_bytes, state_in}
+use Rattle.spelling.specs.Spelling.{spelling, state_bytes}
 use Rattle.fifo_c.specs.Call.{Calls, PowersUp, by_verdict, called, memory_for, powered}
-use Rattle.fifo_c.specs.HighWater.{Tells, TellsMark, lengths_fit, mark_in, marked}
 
 module _ (number : ℕ) (bytes state memory answer : List ℕ) {v : Verdict} (e : v ≡ judged number bytes state (length memory) (length answer)) where
   called_as : called number bytes state memory answer ≡ by_verdict v state memory answer
@@ -65,29 +60,3 @@ module _ (state : List ℕ) where
       let code : 2 ≡ (powered state).code = simp fails in
       let same : state ≡ (powered state).state = simp fails in
       search rules
-
-module _ (number : ℕ) (state words : List ℕ) {looked : Lookup} (e : looked ≡ part_of number) where
-  pub mark_unknown : looked ≡ Unknown → TellsMark number state words 1 words
-  unfolding marked
-  mark_unknown unknown = rw (← e, unknown) (record { result = refl; room = refl })
-
-  module _ {part : Part} (known : looked ≡ Known part) where
-    pub mark_short : lengths_fit state words ≡ false → TellsMark number state words 2 words
-    unfolding marked
-    mark_short fails = rw (← e, known, fails) (record { result = refl; room = refl })
-
-    pub mark_judged : {r : ℕ} {words' : List ℕ} → lengths_fit state words ≡ true → Tells (mark_in part state words) r words'
-        → TellsMark number state words r words'
-    unfolding marked
-    mark_judged fits tells = rw (← e, known, fits) tells
-
-module _ (part : Part) (state words : List ℕ) {told : Bool} (e : told ≡ is_state part state) where
-  pub mark_put : {s : State} {mark wide : ℕ} {words' : List ℕ} → told ≡ true → s ≡ state_in state → mark ≡ s.peak → wide ≡ mark → words' ≡ put_word words 0 wide
-      → Tells (mark_in part state words) 0 words'
-  mark_put holds read found same put = rw (← e, holds) (record { result = refl; room = put ∙ rw (same, found, read) refl })
-
-  pub mark_none : told ≡ false → Tells (mark_in part state words) 3 words
-  mark_none fails = rw (← e, fails) (record { result = refl; room = refl })
-
-pub mark_lengths : (state words : List ℕ) → lengths_fit state words ≡ true → (length state ≡ state_bytes) × (length words ≡ word_size)
-mark_lengths state words e = let all = both (eqb (length state) state_bytes) _ e in (eqb-true _ _ all.0, eqb-true _ _ all.1)

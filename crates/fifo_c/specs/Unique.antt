@@ -3,7 +3,6 @@ use Rattle.std.specs.Prelude.{ℕ, List, ◌≡◌}
 use Rattle.std.proofs.Common.{sym, ◌∙◌}
 use Rattle.call_work.specs.Unique.{gives_unique}
 use Rattle.fifo_c.specs.Call.{Calls, GivesMemoryBytes, GivesStateBytes, PowersUp, called}
-use Rattle.fifo_c.specs.HighWater.{TellsMark}
 
 pub state_bytes_unique : (a b : ℕ) → GivesStateBytes a → GivesStateBytes b → a ≡ b
 state_bytes_unique a b e f = e ∙ sym f
@@ -17,6 +16,3 @@ power_up_unique state a b s t f g = (f.result ∙ sym g.result, f.spelled ∙ sy
 pub call_unique : (number : ℕ) (bytes state memory answer : List ℕ) (a b : ℕ) (s t m n k l : List ℕ)
     → Calls number bytes state memory answer a s m k → Calls number bytes state memory answer b t n l → (a ≡ b) × (s ≡ t) × (m ≡ n) × (k ≡ l)
 call_unique number bytes state memory answer = gives_unique (called number bytes state memory answer)
-
-pub high_water_unique : (number : ℕ) (state words : List ℕ) (a b : ℕ) (v w : List ℕ) → TellsMark number state words a v → TellsMark number state words b w → (a ≡ b) × (v ≡ w)
-high_water_unique number state words a b v w f g = (f.result ∙ sym g.result, f.room ∙ sym g.room)

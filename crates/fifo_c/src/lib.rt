@@ -1,3 +1,2 @@
-// The model for C, on numbers and byte buffers: one sample, and the high-water mark.
+// The model for C: one sample on numbers and byte buffers.
 pub mod call;
-pub mod high_water;

@@ -5,7 +5,6 @@ use Rattle.chip.specs.ResetLaws.{is_fwft}
 use Rattle.chip.specs.State.{passes}
 use Rattle.counts.specs.declared.part.Part.{Part}
 use Rattle.halves.specs.declared.state.Halves.{Halves}
-use Rattle.halves.specs.declared.state.HighWater.{HighWater}
 
 abbrev pub powered_up_both : Halves
 powered_up_both = record { left = powered_up; right = powered_up }
@@ -23,7 +22,3 @@ passes_both part h =
 
 abbrev pub Tested : Part → Halves → Bool → Type 0
 Tested part h r = r ≡ passes_both part h
-
--- both halves' high-water marks, read from the state as it stands
-abbrev pub ReadsHighWater : Halves → HighWater → Type 0
-ReadsHighWater h r = r ≡ record { left = h.left.peak; right = h.right.peak }

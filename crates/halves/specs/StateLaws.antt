@@ -1,6 +1,6 @@
 -- Two parts side by side: the test of 3 taken apart.
 use Rattle.std.specs.Prelude.{Bool, true, false, ◌≡◌, refl}
-use Rattle.std.proofs.Common.{true≢false, sym, ap}
+use Rattle.std.proofs.Common.{true≢false, sym}
 use Rattle.chip.specs.Reset.{powered_up}
 use Rattle.chip.specs.ResetLaws.{is_fwft, power_up_passes}
 use Rattle.chip.specs.State.{passes, widths}
@@ -8,8 +8,7 @@ use Rattle.chip.specs.Widths.{tested_widths}
 use Rattle.counts.specs.declared.part.Part.{Part}
 use Rattle.counts.specs.Both.{both}
 use Rattle.halves.specs.declared.state.Halves.{Halves}
-use Rattle.halves.specs.declared.state.HighWater.{HighWater}
-use Rattle.halves.specs.State.{ReadsHighWater, alike, passes_both, powered_up_both}
+use Rattle.halves.specs.State.{alike, passes_both, powered_up_both}
 
 alike_same : (left right : Bool) → alike left right ≡ true → left ≡ right
 alike_same true true e = refl
@@ -46,7 +45,3 @@ tested_both_widths part h e =
 pub power_up_passes_both : (part : Part) → passes_both part powered_up_both ≡ true
 unfolding passes_both
 power_up_passes_both part = simp (power_up_passes part, alike_itself (is_fwft powered_up.read.mode))
-
--- each half's high-water mark is its own
-pub marks_told : (h : Halves) (r : HighWater) → ReadsHighWater h r → (r.left ≡ h.left.peak) × (r.right ≡ h.right.peak)
-marks_told h r e = (ap (λ (w : HighWater). w.left) e, ap (λ (w : HighWater). w.right) e)

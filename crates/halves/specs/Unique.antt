@@ -3,14 +3,10 @@ use Rattle.std.specs.Prelude.{Bool, ◌≡◌}
 use Rattle.std.proofs.Common.{sym, ◌∙◌}
 use Rattle.counts.specs.declared.part.Part.{Part}
 use Rattle.halves.specs.declared.state.Halves.{Halves}
-use Rattle.halves.specs.declared.state.HighWater.{HighWater}
-use Rattle.halves.specs.State.{PoweredUp, ReadsHighWater, Tested}
+use Rattle.halves.specs.State.{PoweredUp, Tested}
 
 pub power_up_unique : (a b : Halves) → PoweredUp a → PoweredUp b → a ≡ b
 power_up_unique a b e f = e ∙ sym f
 
 pub test_unique : (part : Part) (h : Halves) (a b : Bool) → Tested part h a → Tested part h b → a ≡ b
 test_unique part h a b e f = e ∙ sym f
-
-pub high_water_unique : (h : Halves) (a b : HighWater) → ReadsHighWater h a → ReadsHighWater h b → a ≡ b
-high_water_unique h a b e f = e ∙ sym f

@@ -13,8 +13,6 @@ pub mod AnswerLaws
 pub mod TimeLaws
 pub mod Falls
 pub mod FallLaws
-pub mod HighWater
-pub mod LargestLaws
 pub mod Crossing
 pub mod CrossingLaws
 pub mod FlagLaws
@@ -27,6 +25,3 @@ pub mod Calls
 pub mod CallLaws
 pub mod Tight
 pub mod Histories
-pub mod HighWaterLaws
-pub mod OnePart
-pub mod MarkExample

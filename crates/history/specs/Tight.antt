@@ -3,7 +3,6 @@ use Rattle.std.specs.Prelude.{ℕ, Bool, true, false, List, [], ◌∷◌, ◌�
 use Rattle.chip.specs.Advance.{advanced, running, state_after, store_of}
 use Rattle.chip.specs.Answer.{answer_of, lines_of}
 use Rattle.chip.specs.Enables.{enables_after, last_fall_clean}
-use Rattle.chip.specs.HighWater.{raised}
 use Rattle.refusals.specs.Refuse.{refusal_of, refuses_eight, refuses_nine, refuses_seven, refuses_six, refuses_ten, refuses_twelve}
 use Rattle.chip.specs.Reset.{cleared, master_reset, partial_reset, powered_up}
 use Rattle.chip.specs.State.{in_reach, passes, widths}
@@ -24,7 +23,7 @@ zeros = replicate 8192 0
 
 -- Where a sample leads part 255. With this unfolded all that it is worked by computes, but for whether the part is full,
 unfoldable pub worked : Moment → ℕ → Moment
-unfolding accepts advanced answer_of cleared clocks.read_rises clocks.write_rises defaults delivers enables_after fit in_reach last_fall_clean lines_of load_parallel load_serial loaded_by master_reset next noted offsets_after outcome packed partial_reset passes raised read.delivers read.read_after read.read_count_after read.reads read.ready read.retransmits read.second_after_read read.sees_word read_next reading_after reads record_refusal refusal_of refuses_eight refuses_nine refuses_seven refuses_six refuses_ten refuses_twelve retransmits running sampled shown_by state_after stepped store_of taken takes went_on widths with_bit write.accepts write.second_after_write write.takes_after write.write_after write.write_count_after
+unfolding accepts advanced answer_of cleared clocks.read_rises clocks.write_rises defaults delivers enables_after fit in_reach last_fall_clean lines_of load_parallel load_serial loaded_by master_reset next noted offsets_after outcome packed partial_reset passes read.delivers read.read_after read.read_count_after read.reads read.ready read.retransmits read.second_after_read read.sees_word read_next reading_after reads record_refusal refusal_of refuses_eight refuses_nine refuses_seven refuses_six refuses_ten refuses_twelve retransmits running sampled shown_by state_after stepped store_of taken takes went_on widths with_bit write.accepts write.second_after_write write.takes_after write.write_after write.write_count_after
 worked = next Idt72V255LA
 
 -- and with this a trace from power-up.

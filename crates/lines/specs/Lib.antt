@@ -1,6 +1,5 @@
 pub mod Flags
 pub mod FlagsLaws
-pub mod Peaks
 pub mod Records
 pub mod Tally
 pub mod TallyLaws

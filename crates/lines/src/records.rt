@@ -1,20 +1,13 @@
 // The lines of a trace's records, or of its samples of two records, and the last line of all.
 ghost use Rattle.std.specs.Prelude.{◌≡◌, ◌+◌, ◌*◌, ◌^◌, ◌<◌, ◌≤◌, length, slice_index};
-ghost use Rattle.io.specs.Counts.{IsPrefixLen};
-ghost use Rattle.lines.specs.Peaks.{EndsLine, longest, shown_of};
 ghost use Rattle.lines.specs.Records.{put_answer, put_flags, put_taken, shown_bytes};
 
-use super::peaks::put_end_of_line;
 use super::tally::Tally;
 use super::widths;
 use text::{bytes, digits};
 
-// No line without high-water marks is longer, in bytes: two numbers of 20 digits at most, nine bytes of a word and its blanks, and
-// the end of the line.
+// No line is longer, in bytes: two numbers of 20 digits at most, nine bytes of a word and its blanks, and the end of the line.
 pub const LONGEST: usize = 50;
-
-// Nor is a mark, of 20 digits at most after a blank.
-const LONGEST_PEAK: usize = 21;
 
 // What a line shows of a record that was taken, after its index. An answer is three bytes, flags are two digits.
 #[derive(Drop)]
@@ -23,8 +16,7 @@ pub enum Layout {
     FlagsAndTwoAnswers,
 }
 
-// All lines of a chunk, whose first record has the index `base`, in one write. The high-water marks are shown by each record that
-// was taken. What comes back is whether somebody took the lines.
+// All lines of a chunk, whose first record has the index `base`, in one write. What comes back is whether somebody took the lines.
 pub fn print_records(
     room: &mut [u8],
     base: u64,
@@ -32,15 +24,11 @@ pub fn print_records(
     flags: &[u8],
     answers: &[u8],
     marks: &[u8],
-    peaks: &[u16],
     records: usize,
-) -> bool
-    requires { length peaks.now ≤ 8 }
-{
-    let longest = LONGEST + peaks.len() * LONGEST_PEAK;
-    let count = lines_held(room.len(), longest, records);
-    let end = put_records(room, base, layout, flags, answers, marks, peaks, count);
-    write_first(libc::STDOUT_FILENO, room, end)
+) -> bool {
+    let count = least(records, room.len() / LONGEST);
+    let end = put_records(room, base, layout, flags, answers, marks, count);
+    write_first(room, end)
 }
 
 // The last line of all.
@@ -49,45 +37,7 @@ pub fn print_end(tally: Tally) {
     let first = bytes::put_text(&mut room, 0, b"end ");
     let after = digits::put_decimal(&mut room, first, tally.accepted);
     let end = put_ending(&mut room, after, b" ", tally.refusal);
-    write_first(libc::STDOUT_FILENO, &room, end);
-}
-
-// A line for people, where no line of a record stands: the high-water marks that a run ended with, if any are asked for. Where no
-// record was accepted there is nothing to say, and there may be no part at all.
-pub fn print_peaks(tally: Tally, peaks: &[u16])
-    requires { length peaks.now ≤ 8 }
-{
-    if (peaks.len() == 0) | (tally.accepted == 0) {
-        return;
-    }
-    let mut room = [0u8; LONGEST + 8 * LONGEST_PEAK];
-    let after = bytes::put_text(&mut room, 0, b"high_water_lem mark");
-    let end = put_end_of_line(&mut room, after, peaks);
-    write_first(libc::STDERR_FILENO, &room, end);
-}
-
-// How many high-water marks a line shows: one for each of so many parts, where they are asked for. A row that is refused may be said
-// to have more parts than there are places.
-pub fn shown(high: bool, parts: usize, peaks: &[u16]) -> usize
-    ensures { (result ≡ shown_of high parts (length peaks.now)) × IsPrefixLen result peaks.now }
-{
-    if high {
-        if parts < peaks.len() {
-            parts
-        } else {
-            peaks.len()
-        }
-    } else {
-        0
-    }
-}
-
-// How many of a chunk's lines so many bytes hold.
-fn lines_held(bytes: usize, longest: usize, records: usize) -> usize
-    requires { 0 < longest }
-    ensures { result * longest ≤ bytes }
-{
-    least(records, bytes / longest)
+    write_first(&room, end);
 }
 
 // A chunk's records always fit; one compare spares a law that says so.
@@ -97,10 +47,10 @@ fn least(a: usize, b: usize) -> usize
     if a < b { a } else { b }
 }
 
-fn write_first(descriptor: i32, room: &[u8], count: usize) -> bool
+fn write_first(room: &[u8], count: usize) -> bool
     requires { count ≤ length room.now }
 {
-    io::write_all(descriptor, &room[..count])
+    io::write_all(libc::STDOUT_FILENO, &room[..count])
 }
 
 fn put_records(
@@ -110,17 +60,16 @@ fn put_records(
     flags: &[u8],
     answers: &[u8],
     marks: &[u8],
-    peaks: &[u16],
     count: usize,
 ) -> usize
-    requires { count * longest peaks.now ≤ length room.old }
-    ensures { result ≤ count * longest peaks.now }
+    requires { count * 50 ≤ length room.old }
+    ensures { result ≤ count * 50 }
 {
     let mut at: usize = 0;
     let mut i: usize = 0;
     while i < count {
         let index = std::num::wrapping_add_u64(base, widths::from_size(i));
-        at = put_record(room, at, index, layout, flags, answers, marks, peaks, i);
+        at = put_record(room, at, index, layout, flags, answers, marks, i);
         i += 1;
     }
     at
@@ -135,35 +84,20 @@ fn put_record(
     flags: &[u8],
     answers: &[u8],
     marks: &[u8],
-    peaks: &[u16],
     i: usize,
 ) -> usize
-    requires { (at + longest peaks.now ≤ length room.old) × (i * 6 + 5 < 2 ^ 64) }
-    ensures { result ≤ at + longest peaks.now }
+    requires { (at ≤ i * 50) × (i * 50 + 50 ≤ length room.old) }
+    ensures { result ≤ at + 50 }
 {
     let after = digits::put_decimal(room, at, index);
     let mark = byte_at(marks, i);
     if mark == 0 {
-        put_rest_of_taken(room, after, layout, flags, answers, peaks, i)
+        let end = put_taken(room, after, layout, flags, answers, i);
+        bytes::put_byte(room, end, b'\n');
+        end + 1
     } else {
         put_ending(room, after, b" refused ", mark)
     }
-}
-
-fn put_rest_of_taken(
-    room: &mut [u8],
-    at: usize,
-    layout: Layout,
-    flags: &[u8],
-    answers: &[u8],
-    peaks: &[u16],
-    i: usize,
-) -> usize
-    requires { (at + 18 + length peaks.now * 21 ≤ length room.old) × (i * 6 + 5 < 2 ^ 64) }
-    ensures { (result ≤ at + 18 + length peaks.now * 21) × EndsLine (put_taken layout room.old at flags.now answers.now i) (at + shown_bytes layout) peaks.now room.new result }
-{
-    let shown = put_taken(room, at, layout, flags, answers, i);
-    put_end_of_line(room, shown, peaks)
 }
 
 fn put_taken(

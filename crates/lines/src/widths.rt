@@ -12,9 +12,3 @@ pub(crate) fn from_number(x: u8) -> u64
 {
     x as u64
 }
-
-pub(crate) fn from_peak(x: u16) -> u64
-    ensures { result ≡ x }
-{
-    x as u64
-}

@@ -1,17 +1,16 @@
 -- Paper 02, order 4, of the operations as they are called: a list of two to eight part states, each as at power-up, with the memories one after the
 -- other and any words in them, and calls one after the other: samples on any bytes, and runs over any bytes, strict or lenient, with any rooms. Such
 -- a list is worked as a chain; so what InARow proves is true of what a caller holds. Parts are counted from 0.
-use Rattle.std.specs.Prelude.{ℕ, suc, ◌*◌, ◌-◌, ◌≤◌, ◌<◌, Bool, List, [], ◌∷◌, ◌++◌, map, ◌≢◌, ◌≡◌, refl, get_or, length, take}
+use Rattle.std.specs.Prelude.{ℕ, suc, ◌*◌, ◌-◌, ◌≤◌, ◌<◌, Bool, List, [], ◌∷◌, ◌++◌, map, ◌≢◌, ◌≡◌, refl, length, take}
 use Rattle.std.proofs.Common.{inl, inr, ◌∙◌, arith}
 use Rattle.std.proofs.Math.Path.{sym, ap, subst}
 use Rattle.std.proofs.Math.Decide.{ℕ_discrete}
 use Rattle.chain.specs.Chain.{Runs, Samples}
-use Rattle.chain.specs.HighWaterLaws.{marks_entry}
 use Rattle.chain.specs.ListLaws.{entry_of, row_at}
 use Rattle.chain.specs.StillLaws.{early, runs_still, sample_still}
 use Rattle.chain_runs.specs.declared.run.Report.{Report}
 use Rattle.chain_work.specs.Records.{links_at, records_from, whole_records}
-use Rattle.rows.specs.Row.{high_waters, row_of}
+use Rattle.rows.specs.Row.{row_of}
 use Rattle.rows.specs.Step.{After, state_of}
 use Rattle.chain_work.specs.Work.{Ended}
 use Rattle.chip.specs.declared.state.State.{State}
@@ -22,12 +21,11 @@ use Rattle.fifo.specs.declared.sample.Outcome.TheVariants.{Refused, Taken}
 use Rattle.fifo.specs.Sample as fifo
 use Rattle.fifo.specs.Sample.{is_taken}
 use Rattle.links.specs.declared.record.Links.{Links}
-use Rattle.history.specs.HighWater.{held_after_each, largest}
-use Rattle.history.specs.OnePart.{IsPart}
 use Rattle.history.specs.Trace.{at}
 use Rattle.linked.specs.AnswerLaws.{AnswersEnds}
 use Rattle.linked.specs.CallLaws.{called_more, calls_narrow, listed_calls, samples_worked}
 use Rattle.linked.specs.Chaining.{Chain, Narrow, chain_led, chain_next, chain_outcome, chain_takes, inside_from, moment_of, powered_row, records_of}
+use Rattle.linked.specs.EachPart.{IsPart}
 use Rattle.linked.specs.InARow as row
 use Rattle.linked.specs.InARow.{Transfers}
 use Rattle.linked.specs.Listed.{Call, Listed, Parts, called_all, powered_parts, run_over, sample_of, whole_of, worked_all}
@@ -81,11 +79,6 @@ module _ (part : Part) (n : ℕ) (several : 2 ≤ n) (few : n ≤ 8) (memory : L
       subst (IsPart part (own_words part memory i) (records_of part i (powered_row n memory) samples))
       (λ j. at (sym (each_state i l) j) (own_words part (sym listed.words j) i) (along.notes i))
       (row.each_part part n some few memory whole samples narrow i l)
-
-  -- So each number that `high_water` reads from the caller's list is that part's high-water mark (order 6).
-  pub each_mark : (i : ℕ) → i < n
-      → get_or (high_waters (row_of there.states)) i 0 ≡ largest (held_after_each part (own_words part memory i) (records_of part i (powered_row n memory) samples))
-  each_mark i l = marks_entry there.states i (omega (arith, l, few)) ∙ (each_part i l).high_water
 
   -- The words, in what the caller holds.
   pub in_order : (held.notes 0).accepted ≡ held.taken (n - 1) ++ inside_from part held (n - 1)

@@ -19,10 +19,10 @@ use Rattle.notes.specs.Fold.{started}
 use Rattle.pins.specs.Record.{word}
 use Rattle.refusals.specs.Refuse.{refusal_of}
 use Rattle.history.specs.Onlooker.{accepts, outside, reads}
-use Rattle.history.specs.OnePart.{IsPart}
 use Rattle.linked.specs.AnswerLaws.{AnswersEnds, answers_ends}
 use Rattle.linked.specs.Chaining.{Chain, Narrow, chain_led, chain_next, chain_outcome, chain_takes, inside_from, moment_of, powered_row, records_of, seen_at}
 use Rattle.linked.specs.EachPart as each
+use Rattle.linked.specs.EachPart.{IsPart}
 use Rattle.linked.specs.Linked.{Linked, transfers, word_given}
 use Rattle.linked.specs.LinkedLaws.{linked_led, linked_powered}
 use Rattle.linked.specs.OwnWords.{own_words}

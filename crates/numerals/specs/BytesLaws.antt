@@ -45,7 +45,7 @@ put_other bytes place word other apart =
     )
     refl
 
-pub put_same : (bytes : List ℕ) (place word : ℕ) → place * 4 + 3 < length bytes → word < 2 ^ 32 → word_at (put_word bytes (place * 4) word) (place * 4) ≡ word
+put_same : (bytes : List ℕ) (place word : ℕ) → place * 4 + 3 < length bytes → word < 2 ^ 32 → word_at (put_word bytes (place * 4) word) (place * 4) ≡ word
 unfolding word_at put_word put_four
 put_same bytes place word within h =
     let at = place * 4 in

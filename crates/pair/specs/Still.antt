@@ -1,4 +1,4 @@
--- Two records that are never refused and move no count, no flag and no word, in both parts.
+-- Two records that are never refused and move only what is remembered of the pins, in both parts.
 use Rattle.std.specs.Prelude.{ℕ, Bool, ◌&&◌}
 use Rattle.chip.specs.Answer.{answer_of}
 use Rattle.chip.specs.Quiet.{held}

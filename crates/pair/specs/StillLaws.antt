@@ -1,4 +1,4 @@
--- Two records that are never refused and move no count, no flag and no word.
+-- Two records that are never refused and move only what is remembered of the pins.
 use Rattle.std.specs.Prelude.{ℕ, true, List, ◌≡◌}
 use Rattle.std.proofs.Common.{◌∙◌}
 use Rattle.counts.specs.declared.part.Part.{Part}

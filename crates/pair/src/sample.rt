@@ -78,7 +78,7 @@ pub fn step(
     join(left_given, right_given)
 }
 
-// Such records are never refused and move no count, no flag and no word: neither the refusals nor the memories need be looked at.
+// Such records are never refused and move only what is remembered of the pins: neither the refusals nor the memories need be looked at.
 fn are_still(left: u32, right: u32, state: Halves) -> bool
     ensures { result ≡ still_both (two left right) state }
 {

@@ -1,8 +1,7 @@
 -- What is turned away, 3: a state that samples lead to from power-up passes its test, for it holds true counts.
 use Rattle.std.specs.Prelude.{ℕ, ◌+◌, ◌-◌, ◌%◌, ◌≤◌, Bool, true, false, cond, ◌&&◌, ◌≡◌, leb}
 use Rattle.std.proofs.Math.Path.{refl}
-use borrow.Author.Tests.{le-leb}
-use Rattle.std.proofs.Common.{arith}
+use Rattle.std.proofs.Common.{le-leb, arith}
 use Rattle.counts.specs.declared.part.Part.{Part}
 use Rattle.counts.specs.Part.{depth_of}
 use Rattle.counts.specs.Round.{behind, less, width}
@@ -21,20 +20,16 @@ use Rattle.chip.specs.declared.enables.Enables.{Enables}
 use Rattle.chip.specs.declared.state.State.{State}
 use Rattle.chip.specs.Advance.{advanced, running, state_after}
 use Rattle.chip.specs.HalfLaws.{held_exact}
-use Rattle.chip.specs.HighWaterLaws.{peak_not_above, peak_not_below}
 use Rattle.refusals.specs.Refuse.{refusal_of}
 use Rattle.refusals.specs.RefusalLaws.{allowed}
 use Rattle.chip.specs.Reset.{cleared, master_reset, partial_reset, powered_up}
 use Rattle.chip.specs.ResetLaws.{power_up_passes}
 use Rattle.chip.specs.State.{in_reach, passes, widths, words_held}
-use Rattle.chip.specs.ThreeLaws.{three_spares}
 use Rattle.chip.specs.Widths.{tested_widths, widths_stay}
 
 pub record Reached (part : Part) (s : State) (t : TrueCounts) : Type 0 where
   pub tracks : Tracks (depth_of part) s.write s.read t
   pub narrow : widths part s ≡ true
-  pub not_above : s.peak ≤ depth_of part
-  pub not_below : words_held s ≤ s.peak
 
 -- the true counts after a sample that is taken
 unfoldable pub counts_after : Part → Pins → State → TrueCounts → TrueCounts
@@ -65,17 +60,7 @@ module _ (part : Part) where
 
   pub power_up_reached : Reached part powered_up no_counts
   unfolding powered_up
-  power_up_reached =
-      let spared = three_spares part powered_up (power_up_passes part) in
-      record {
-        tracks = cleared_counts _ _ _ _ _ _ _;
-        narrow = tested_widths part powered_up (power_up_passes part);
-        not_above = spared.not_above;
-        not_below = spared.not_below;
-      }
-
-  held_at_most : (s : State) (t : TrueCounts) → Tracks (depth_of part) s.write s.read t → words_held s ≤ depth_of part
-  held_at_most s t g = rw (held_exact part s t g) (omega arith)
+  power_up_reached = record { tracks = cleared_counts _ _ _ _ _ _ _; narrow = tested_widths part powered_up (power_up_passes part) }
 
   counts_by_lem : (mrs prs : Bool) (t : TrueCounts) (run kept fresh : State) → (mrs && prs ≡ true → Tracks (depth_of part) run.write run.read t)
       → Tracks (depth_of part) kept.write kept.read no_counts → Tracks (depth_of part) fresh.write fresh.read no_counts
@@ -94,15 +79,11 @@ module _ (part : Part) where
   pub reach_stays : (p : Pins) (fetched : ℕ) (s : State) (t : TrueCounts) → Reached part s t → refusal_of part p s ≡ 0
       → Reached part (advanced part p fetched s).state (counts_after part p s t)
   unfolding advanced state_after counts_after master_reset partial_reset
-  reach_stays p fetched s t h e =
-      let tracks = counts_by_lem p.mrs p.prs (true_after (depth_of part) p s.write s.read t) (running part p fetched s) (partial_reset p s) (master_reset p s)
-      (running_counts p fetched s t h e) (cleared_counts _ _ _ _ _ _ _) (cleared_counts _ _ _ _ _ _ _) in
-      record {
-        tracks = tracks;
-        narrow = widths_stay part p fetched s h.narrow;
-        not_above = peak_not_above part p fetched s (depth_of part) h.not_above (held_at_most (state_after part p fetched s) (counts_after part p s t) tracks);
-        not_below = peak_not_below part p fetched s;
-      }
+  reach_stays p fetched s t h e = record {
+    tracks = counts_by_lem p.mrs p.prs (true_after (depth_of part) p s.write s.read t) (running part p fetched s) (partial_reset p s) (master_reset p s)
+        (running_counts p fetched s t h e) (cleared_counts _ _ _ _ _ _ _) (cleared_counts _ _ _ _ _ _ _);
+    narrow = widths_stay part p fetched s h.narrow;
+  }
 
   module _ (s : State) (t : TrueCounts) (h : Reached part s t) where
     exact : (count earlier : ℕ) → count ≡ earlier % width → earlier ≤ t.written → t.written ≤ earlier + depth_of part
@@ -131,8 +112,6 @@ module _ (part : Part) where
           near s.read.first.0 t.read_first h.tracks.read_first (omega arith) (omega arith),
           near s.read.second.0 t.read_second h.tracks.read_second (omega arith) (omega arith),
           ahead_of_read,
-          le-leb s.peak (depth_of part) h.not_above,
-          le-leb (words_held s) s.peak h.not_below,
         )
 
     pub reached_passes : passes part s ≡ true

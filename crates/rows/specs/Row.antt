@@ -1,5 +1,5 @@
 -- Order 4: the list of part states, one entry a part, as it is worked: a row of up to eight by value, filled from the list and put back.
-use Rattle.std.specs.Prelude.{ℕ, zero, suc, cond, List, [], ◌∷◌, map, ◌≡◌, ltb, get_or, length, replicate, set}
+use Rattle.std.specs.Prelude.{ℕ, zero, suc, cond, List, ◌≡◌, ltb, get_or, length, replicate, set}
 use Rattle.chip.specs.declared.state.State.{State}
 use Rattle.chip.specs.Reset.{powered_up}
 use Rattle.rows.specs.declared.row.Row.{Row}
@@ -33,10 +33,3 @@ put_back row states = stored_to row states (length states)
 
 abbrev pub PoweredUp : ℕ → Row → Type 0
 PoweredUp count r = r ≡ empty_row count
-
--- the high-water mark at a place, and at each of the eight
-abbrev pub peak_at : Row → ℕ → ℕ
-peak_at row i = (get_or row.states i powered_up).peak
-
-unfoldable pub high_waters : Row → List ℕ
-high_waters row = map (peak_at row) (0 ∷ 1 ∷ 2 ∷ 3 ∷ 4 ∷ 5 ∷ 6 ∷ 7 ∷ [])

@@ -1,10 +1,9 @@
 -- A state of a row, whatever stands for those past its end.
 use Rattle.std.specs.Prelude.{ℕ, zero, suc, ◌<◌, List, [], ◌∷◌, ◌≡◌, refl, get_or, length}
-use Rattle.std.proofs.Common.{sym, subst, le_of_suc-le-suc, not-suc-le-zero, arith}
+use Rattle.std.proofs.Common.{sym, subst, le_of_suc-le-suc, not-suc-le-zero}
 use Rattle.chip.specs.declared.state.State.{State}
 use Rattle.chip.specs.Reset.{powered_up}
 use Rattle.rows.specs.declared.row.Row.{Row}
-use Rattle.rows.specs.Row.{high_waters, peak_at}
 use Rattle.rows.specs.Step.{state_of}
 
 pub same_at {ℓ} : {A : Type ℓ} (xs : List A) (i : ℕ) (d e : A) → i < length xs → get_or xs i d ≡ get_or xs i e
@@ -15,16 +14,3 @@ same_at (x ∷ xs) (suc i) d e h = same_at xs i d e (le_of_suc-le-suc h)
 -- as the code reads it
 pub state_at : (row : Row) → length row.states ≡ 8 → (i : ℕ) (other : State) → i < 8 → get_or row.states i other ≡ state_of row i
 state_at row eight i other l = same_at row.states i other powered_up (subst (λ (n : ℕ). i < n) (sym eight) l)
-
--- of the eight high-water marks, the one at a place is that of the state there
-pub peak_there : (row : Row) (i : ℕ) → i < 8 → get_or (high_waters row) i 0 ≡ peak_at row i
-unfolding high_waters
-peak_there row zero l = refl
-peak_there row (suc zero) l = refl
-peak_there row (suc (suc zero)) l = refl
-peak_there row (suc (suc (suc zero))) l = refl
-peak_there row (suc (suc (suc (suc zero)))) l = refl
-peak_there row (suc (suc (suc (suc (suc zero))))) l = refl
-peak_there row (suc (suc (suc (suc (suc (suc zero)))))) l = refl
-peak_there row (suc (suc (suc (suc (suc (suc (suc zero))))))) l = refl
-peak_there row (suc (suc (suc (suc (suc (suc (suc (suc i)))))))) l = absurd (omega arith)

@@ -1,6 +1,6 @@
 // Up to eight part states by value, and how many there are.
-ghost use Rattle.std.specs.Prelude.{◌<◌, ◌≡◌};
-ghost use Rattle.rows.specs.Row.{PoweredUp, chosen_of, high_waters, peak_at, with_state};
+ghost use Rattle.rows.specs.Row.{PoweredUp, chosen_of, with_state};
+ghost use Rattle.std.specs.Prelude.{◌≡◌};
 
 use chip::state::State;
 
@@ -37,27 +37,4 @@ pub fn chosen(row: Row, i: usize, s: State) -> State
     ensures { result ≡ chosen_of row i s }
 {
     if i < 8 { row.states[i] } else { s }
-}
-
-// The high-water mark at each place (paper 02, order 6), read without a sample and with no test of the states.
-pub fn high_water(row: Row) -> [u16; 8]
-    ensures { result ≡ high_waters row }
-{
-    [
-        peak_at(row, 0),
-        peak_at(row, 1),
-        peak_at(row, 2),
-        peak_at(row, 3),
-        peak_at(row, 4),
-        peak_at(row, 5),
-        peak_at(row, 6),
-        peak_at(row, 7),
-    ]
-}
-
-fn peak_at(row: Row, i: usize) -> u16
-    requires { i < 8 }
-    ensures { result ≡ peak_at row i }
-{
-    chip::high_water::high_water(row.states[i])
 }

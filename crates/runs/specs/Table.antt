@@ -4,7 +4,6 @@ use Rattle.chip.specs.declared.state.State.{State}
 use Rattle.chip.specs.Advance.{advanced, running, state_after, store_of}
 use Rattle.chip.specs.Answer.{answer_of, lines_of}
 use Rattle.chip.specs.Enables.{enables_after, last_fall_clean}
-use Rattle.chip.specs.HighWater.{raised}
 use Rattle.refusals.specs.Refuse.{refusal_of, refuses_eight, refuses_nine, refuses_seven, refuses_six, refuses_ten, refuses_twelve}
 use Rattle.chip.specs.Reset.{cleared, master_reset, partial_reset, powered_up}
 use Rattle.chip.specs.State.{in_reach, passes, widths}
@@ -49,7 +48,7 @@ printed e = record { answers = threes e.progress.answers; accepted = e.progress.
 
 -- a strict run of part 255 from a state, with a memory of zeros and room for nine answers
 unfoldable pub ran_here : List ℕ → State → Ended
-unfolding accepts advanced answer_of begun cleared defaults delivers enables_after fit folded full in_reach last_fall_clean lines_of load_parallel load_serial loaded_by master_reset offsets_after packed partial_reset passes powered_up put_answer raised read_after read_count_after read_next read_rises reading_after reads ready record_at record_refusal items_from refusal_of refuses_eight refuses_nine refuses_seven refuses_six refuses_ten refuses_twelve retransmits run_of running second_after_read second_after_write sees_word state_after stepped store_of taken takes_after widths with_bit word_at worked write_after write_count_after write_rises
+unfolding accepts advanced answer_of begun cleared defaults delivers enables_after fit folded full in_reach last_fall_clean lines_of load_parallel load_serial loaded_by master_reset offsets_after packed partial_reset passes powered_up put_answer read_after read_count_after read_next read_rises reading_after reads ready record_at record_refusal items_from refusal_of refuses_eight refuses_nine refuses_seven refuses_six refuses_ten refuses_twelve retransmits run_of running second_after_read second_after_write sees_word state_after stepped store_of taken takes_after widths with_bit word_at worked write_after write_count_after write_rises
 ran_here bytes s = run_of false 255 bytes (started s (replicate 8192 0) (replicate 27 0) [])
 
 pub table :
@@ -84,7 +83,6 @@ odd = record {
   offsets = powered_up.offsets;
   reading = powered_up.reading;
   enables = powered_up.enables;
-  peak = 0;
 }
 
 -- a rise of WCLK that asks for nothing, with the skew missed; then WCLK LOW

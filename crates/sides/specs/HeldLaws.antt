@@ -19,11 +19,6 @@ pub write_held : (depth m : ℕ) (p : Pins) (r : ReadSide) (w : WriteSide) → w
 unfolding write_after write_count_after second_after_write accepts
 write_held depth m p r w e = simp (e, or-false)
 
--- so that its count stands
-pub write_stands : (depth : ℕ) (p : Pins) (w : WriteSide) → write_rises p w ≡ false → write_count_after depth p w ≡ w.count
-unfolding write_count_after accepts
-write_stands depth p w e = simp e
-
 mode_kept : (mode : Mode) → mode_after mode false false false ≡ mode
 mode_kept Standard = refl
 mode_kept (Fwft true) = refl
@@ -38,7 +33,3 @@ pub read_held : (n : ℕ) (p : Pins) (fetched : ℕ) (w : WriteSide) (r : ReadSi
     → read_after n p fetched w r ≡ held_read p.rclk (latest_write false (write_rises p w) w.count r.latest) r
 unfolding read_after read_count_after second_after_read retransmits delivers reads
 read_held n p fetched w r e = simp (e, none_by r.mode, mode_kept r.mode)
-
-pub read_stands : (p : Pins) (r : ReadSide) → read_rises p r ≡ false → read_count_after p r ≡ r.count
-unfolding read_count_after retransmits delivers reads
-read_stands p r e = simp (e, none_by r.mode)

@@ -17,7 +17,7 @@ module _ (s : State) (bytes : List ℕ) {first second third fourth : List ℕ} w
   counts_put a b e f g h = h ∙ rw (g, f, e, a, b) refl
 
   pub rest_put : {shown : ℕ} → shown ≡ shown_offset s.reading.shows → first ≡ put_four bytes 32 (pair s.offsets.n s.offsets.m)
-      → second ≡ put_four first 36 (low_first s.offsets.serial) → third ≡ put_four second 40 (pair shown s.peak)
+      → second ≡ put_four first 36 (low_first s.offsets.serial) → third ≡ put_four second 40 (pair shown 0)
       → fourth ≡ put_four third 44 (low_first s.read.output) → fourth ≡ put_fours 32 (rest_of s) bytes
   rest_put a e f g h = h ∙ rw (g, f, e, a) refl
 

@@ -82,7 +82,6 @@ state_again s h =
       half_again s.offsets.n h.n,
       half_again s.offsets.m h.m,
       half_again (shown_offset s.reading.shows) h.shown,
-      half_again s.peak c.peak,
       word_again s.offsets.serial h.serial,
       word_again s.read.output h.output,
       read_rise_again s.write.latest,
@@ -227,7 +226,7 @@ all_fours : (s : State) → Small s → AllFours (levels_of s ++ enums_of s ++ c
 all_fours s h =
     let levels = levels_bytes s in
     let enables = digits_bytes s.enables.rt s.enables.ren s.enables.wen s.enables.clean in
-    let rest : AllFours (rest_of s ++ enables_of s.enables) = (pair_bytes _ _, (word_bytes _, (pair_bytes _ _, (word_bytes _, (enables, tt))))) in
+    let rest : AllFours (rest_of s ++ enables_of s.enables) = (pair_bytes _ _, (word_bytes _, (pair_bytes _ 0, (word_bytes _, (enables, tt))))) in
     let counts : AllFours (counts_of s ++ rest_of s ++ enables_of s.enables) = (pair_bytes _ _, (pair_bytes _ _, (pair_bytes _ _, (pair_bytes _ _, rest)))) in
     (levels.0, (levels.1.0, (levels.1.1.0, ((enums_bytes s h).0, counts))))
 
@@ -276,5 +275,4 @@ counted_in bytes h = record {
   read_first = half_small bytes 26 h;
   read_second = half_small bytes 28 h;
   read_latest = write_rise_small (level_at bytes 5) (half_at bytes 30) (half_small bytes 30 h);
-  peak = half_small bytes 42 h;
 }

@@ -38,10 +38,10 @@ counts_of s =
     ∷ pair s.read.second.0 (write_before s.read.latest)
     ∷ []
 
--- the offsets, loaded, loading and shown, the high-water mark, and the output register
+-- the offsets, loaded, loading and shown, and the output register; two bytes are left over
 abbrev pub rest_of : State → List Four
 rest_of s =
-    pair s.offsets.n s.offsets.m ∷ low_first s.offsets.serial ∷ pair (shown_offset s.reading.shows) s.peak ∷ low_first s.read.output ∷ []
+    pair s.offsets.n s.offsets.m ∷ low_first s.offsets.serial ∷ pair (shown_offset s.reading.shows) 0 ∷ low_first s.read.output ∷ []
 
 -- the levels of RT, REN and WEN, and whether RT's last fall was clean
 abbrev pub enables_of : Enables → List Four
@@ -104,7 +104,6 @@ state_in bytes = record {
   offsets = offsets_in bytes;
   reading = reading_in bytes;
   enables = enables_in bytes;
-  peak = half_at bytes 42;
 }
 
 -- four bytes that are levels
@@ -116,10 +115,11 @@ spelled_digits bytes =
     four_levels bytes 0 && four_levels bytes 4 && four_levels bytes 8 && four_levels bytes 48
     && ltb (get_or bytes 12 0) 3 && ltb (get_or bytes 13 0) 3 && ltb (get_or bytes 14 0) 3
 
--- no count where none is remembered, and no offset where none is shown
+-- no count where none is remembered, no offset where none is shown, and two bytes that nothing uses
 unfoldable pub blank_elsewhere : List ℕ → Bool
 blank_elsewhere bytes =
     (level_at bytes 4 || eqb (half_at bytes 22) 0) && (level_at bytes 5 || eqb (half_at bytes 30) 0) && (level_at bytes 11 || eqb (half_at bytes 40) 0)
+    && eqb (half_at bytes 42) 0
 
 -- whether bytes spell a state at all
 unfoldable pub spells : List ℕ → Bool

@@ -1,12 +1,9 @@
 -- The state's bytes: what is written over them, and that what was read is written back as the same bytes.
 use Rattle.std.specs.Prelude.{ℕ, zero, suc, ◌+◌, ◌^◌, ◌<◌, true, ◌&&◌, ◌||◌, List, [], ◌∷◌, ◌≡◌, refl, eqb, ltb, get_or, length}
-use Rattle.std.proofs.Common.{sym, ap, ◌∙◌, ltb-true, arith}
+use Rattle.std.proofs.Common.{sym, ap, ◌∙◌, eqb-true, ltb-true, arith}
 use Rattle.chip.specs.declared.state.State.{State}
 use Rattle.chip.specs.Enables.{enables_after}
 use Rattle.chip.specs.Quiet.{held}
-use Rattle.chip.specs.State.{passes}
-use Rattle.chip.specs.ThreeLaws.{tested_peak}
-use Rattle.counts.specs.declared.part.Part.{Part}
 use Rattle.counts.specs.Both.{both}
 use Rattle.pins.specs.declared.record.Pins.{Pins}
 use Rattle.numerals.specs.Bytes.{byte_of, half_at, low_byte, low_first_at, put_four, put_fours}
@@ -32,11 +29,10 @@ pub put_over : (s : State) (bytes : List ℕ) → length bytes ≡ state_bytes
 unfolding put_four spelling
 put_over s bytes e = rw (one_by_one state_bytes bytes e) refl
 
--- where no clock rises only what is remembered of the pins is other bytes: the high-water mark of a state that passes 3 stays
-pub remembered_put : (part : Part) (p : Pins) (s : State) → passes part s ≡ true
-    → put_remembered p.wclk p.rclk (enables_after p s.enables) (spelling s) ≡ spelling (held p s)
+-- where no clock rises only what is remembered of the pins is other bytes
+pub remembered_put : (p : Pins) (s : State) → put_remembered p.wclk p.rclk (enables_after p s.enables) (spelling s) ≡ spelling (held p s)
 unfolding put_four put_clocks put_remembered spelling held
-remembered_put part p s e = rw (tested_peak part s e) refl
+remembered_put p s = refl
 
 pub spelling_length : (s : State) → length (spelling s) ≡ state_bytes
 unfolding spelling
@@ -108,6 +104,7 @@ record Own (bytes : List ℕ) : Type 0 where
   read : read_before (read_rise_of (level_at bytes 4) (half_at bytes 22)) ≡ half_at bytes 22
   write : write_before (write_rise_of (level_at bytes 5) (half_at bytes 30)) ≡ half_at bytes 30
   shown : shown_offset (shows_of (level_at bytes 11) (half_at bytes 40)) ≡ half_at bytes 40
+  blank : half_at bytes 42 ≡ 0
 
 own : (bytes : List ℕ) → spells bytes ≡ true → Own bytes
 unfolding spells spelled_digits blank_elsewhere
@@ -118,7 +115,8 @@ own bytes e =
     let enables = both _ _ view.0 in
     let offsets = both _ _ enables.0 in
     let flags = both (four_levels bytes 0) (four_levels bytes 4) offsets.0 in
-    let shown = both _ _ all.1 in
+    let blank = both _ _ all.1 in
+    let shown = both _ _ blank.0 in
     let sides = both (level_at bytes 4 || eqb (half_at bytes 22) 0) (level_at bytes 5 || eqb (half_at bytes 30) 0) shown.0 in
     record {
       start = levels bytes 0 flags.0;
@@ -131,6 +129,7 @@ own bytes e =
       read = read_before_back (half_at bytes 22) (level_at bytes 4) sides.0;
       write = write_before_back (half_at bytes 30) (level_at bytes 5) sides.1;
       shown = shown_back (half_at bytes 40) (level_at bytes 11) shown.1;
+      blank = eqb-true (half_at bytes 42) 0 blank.1;
     }
 
 -- what was read is written back as the same bytes
@@ -142,6 +141,8 @@ written_back bytes room h e =
     let b = o.flags in
     let c = o.offsets in
     let d = o.enables in
+    let blank : get_or bytes 42 0 ≡ 0 = sym (half_low bytes h 42) ∙ ap low_byte o.blank in
+    let unused : get_or bytes 43 0 ≡ 0 = sym (half_high bytes h 42) ∙ ap (byte_of 8) o.blank in
     let same : spelling (state_in bytes) ≡ listed state_bytes (λ i. get_or bytes i 0) = simp (
       read_rose_back,
       write_rose_back,
@@ -176,5 +177,7 @@ written_back bytes room h e =
       second_byte bytes h,
       third_byte bytes h,
       fourth_byte bytes h,
+      blank,
+      unused,
     ) in
     same ∙ sym (one_by_one state_bytes bytes room)

@@ -13,7 +13,7 @@ use offsets::registers::Offsets;
 use sides::read::ReadSide;
 use sides::write::WriteSide;
 
-// Nineteen digits and the number of serial bits, twelve numbers of 16 bits and two of 32.
+// Nineteen digits and the number of serial bits, eleven numbers of 16 bits and two of 32; two bytes are left over.
 pub const STATE_BYTES: usize = 52;
 
 pub fn read_state(bytes: &[u8]) -> State
@@ -32,7 +32,6 @@ pub fn read_state(bytes: &[u8]) -> State
         offsets: offsets,
         reading: reading,
         enables: enables,
-        peak: half_at(bytes, 42),
     }
 }
 
@@ -160,6 +159,7 @@ fn is_blank_elsewhere(bytes: &[u8]) -> bool
     (level_at(bytes, 4) | (half_at(bytes, 22) == 0))
         & (level_at(bytes, 5) | (half_at(bytes, 30) == 0))
         & (level_at(bytes, 11) | (half_at(bytes, 40) == 0))
+        & (half_at(bytes, 42) == 0)
 }
 
 pub fn write_state(state: State, bytes: &mut [u8])
@@ -268,7 +268,7 @@ fn put_rest(s: State, bytes: &mut [u8])
     let shows = reading.shows;
     put_pair(bytes, 32, s.offsets.n, s.offsets.m);
     put_low_first(bytes, 36, s.offsets.serial);
-    put_pair(bytes, 40, digits::shown_offset(shows), s.peak);
+    put_pair(bytes, 40, digits::shown_offset(shows), 0);
     put_low_first(bytes, 44, s.read.output);
 }
 

@@ -2,11 +2,12 @@
 use chip::state::State;
 use input::chunks;
 use input::chunks::RECORDS;
-use input::manner::Manner;
 use lines::records::Layout;
 use lines::tally::Tally;
 use lines::{records, tally};
 use runs::run::Ran;
+
+const CHUNK: usize = RECORDS * 4;
 
 // What is carried from chunk to chunk.
 #[derive(Drop)]
@@ -15,16 +16,13 @@ struct Progress {
     tally: Tally,
 }
 
-pub(crate) fn work_all(manner: Manner, part: u32, memory: &mut [u32]) {
+pub(crate) fn work_all(lenient: bool, part: u32, memory: &mut [u32]) {
     let mut room = [0u8; RECORDS * records::LONGEST];
-    let progress = work_chunks(manner, part, memory, &mut room);
-    records::print_end(progress.tally);
-    let peaks = [chip::high_water::high_water(progress.state); 1];
-    let shown = records::shown(manner.high, 1, &peaks);
-    records::print_peaks(progress.tally, &peaks[..shown]);
+    let tally = work_chunks(lenient, part, memory, &mut room);
+    records::print_end(tally);
 }
 
-fn work_chunks(manner: Manner, part: u32, memory: &mut [u32], room: &mut [u8]) -> Progress {
+fn work_chunks(lenient: bool, part: u32, memory: &mut [u32], room: &mut [u8]) -> Tally {
     let mut progress = Progress {
         state: chip::reset::power_up(),
         tally: tally::start(),
@@ -33,30 +31,29 @@ fn work_chunks(manner: Manner, part: u32, memory: &mut [u32], room: &mut [u8]) -
     let mut left = u64::MAX;
     while left > 0 {
         left -= 1;
-        progress = work_chunk(manner, part, progress, memory, room);
+        progress = work_chunk(lenient, part, progress, memory, room);
         if progress.tally.over {
-            return progress;
+            return progress.tally;
         }
     }
-    progress
+    progress.tally
 }
 
 fn work_chunk(
-    manner: Manner,
+    lenient: bool,
     part: u32,
     before: Progress,
     memory: &mut [u32],
     room: &mut [u8],
 ) -> Progress {
-    let mut trace = [0u8; RECORDS * 4];
-    let chunk = chunks::records(manner.high) * 4;
-    let came = chunks::read(&mut trace, chunk);
+    let mut trace = [0u8; CHUNK];
+    let came = chunks::read(&mut trace);
     let mut answers = [0u8; RECORDS * 3];
     // A strict run leaves them at 0: each record before its end has an answer.
     let mut marks = [0u8; RECORDS];
     let state = before.state;
     let ran = run(
-        manner.lenient,
+        lenient,
         part,
         &trace[..came],
         state,
@@ -65,8 +62,16 @@ fn work_chunk(
         &mut marks,
     );
     let tally = before.tally;
-    let printed = print(manner.high, room, tally.records, &answers, &marks, ran);
-    move_on(tally, ran, came, chunk, printed)
+    let printed = records::print_records(
+        room,
+        tally.records,
+        Layout::Answer,
+        b"",
+        &answers,
+        &marks,
+        ran.index,
+    );
+    move_on(tally, ran, came, printed)
 }
 
 fn run(
@@ -85,23 +90,8 @@ fn run(
     }
 }
 
-fn print(high: bool, room: &mut [u8], base: u64, answers: &[u8], marks: &[u8], ran: Ran) -> bool {
-    let peaks = [chip::high_water::high_water(ran.state); 1];
-    let shown = records::shown(high, 1, &peaks);
-    records::print_records(
-        room,
-        base,
-        Layout::Answer,
-        b"",
-        answers,
-        marks,
-        &peaks[..shown],
-        ran.index,
-    )
-}
-
-fn move_on(before: Tally, ran: Ran, came: usize, chunk: usize, printed: bool) -> Progress {
-    let last = chunks::is_last(came, chunk, printed);
+fn move_on(before: Tally, ran: Ran, came: usize, printed: bool) -> Progress {
+    let last = chunks::is_last(came, CHUNK, printed);
     let state = ran.state;
     Progress {
         state: state,

@@ -1,20 +1,21 @@
 // The trace program: a part number and records on standard input, a line for each record on standard output.
 mod chunks;
 
-use input::manner::{Arguments, Manner};
+use input::manner::Manner;
 
 fn main() {
     let asked = input::manner::asked();
     match asked {
-        Arguments::Known(manner) => trace(manner),
-        Arguments::Unknown => input::manner::complain(b"trace"),
+        Manner::Strict => trace(false),
+        Manner::Lenient => trace(true),
+        Manner::Unknown => input::manner::complain(b"trace"),
     }
 }
 
 // The run itself turns an unknown part away, whatever memory it is lent.
-fn trace(manner: Manner) {
+fn trace(lenient: bool) {
     let number = input::header::read_part_number();
     let words = input::memory::words(number);
     let mut memory = [0u32; input::memory::MOST];
-    chunks::work_all(manner, number, &mut memory[..words]);
+    chunks::work_all(lenient, number, &mut memory[..words]);
 }

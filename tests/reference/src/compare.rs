@@ -6,7 +6,6 @@ use crate::chain::onlooker::WatchedChain;
 use crate::chain::{self, LENGTHS};
 use crate::corners::Corners;
 use crate::library::{Difference, Library};
-use crate::manner::Manner;
 use crate::pair::onlooker::Watched;
 use crate::pair::traffic;
 use crate::plans::{jobs, Amount};
@@ -73,18 +72,16 @@ pub fn program(launch: &Launch, amount: Amount, seed: u64, corners: &mut Corners
         let (trace, _) = generated(job, false, random.draw(), &mut Corners::default());
         damaged(trace.input(), &mut random)
     });
-    let traces = traces.map(|input| (input, Manner::any(manner.one_in(3), &mut manner)));
+    let traces = traces.map(|input| (input, manner.one_in(3)));
     differing::<Single>(launch, odd_inputs::<Single>().chain(traces), corners)
 }
 
 pub fn pair(launch: &Launch, amount: Amount, seed: u64, corners: &mut Corners) -> Option<Counterexample> {
     let mut random = Random::new(seed);
-    let mut manner = Random::new(!seed);
     let mut on_the_way = Corners::default();
     let traces = traffic::jobs(amount, &mut random).into_iter().map(|(job, user)| {
         let (input, lenient) = traffic::generated(job, user, random.draw(), &mut on_the_way);
-        let input = if job.plan.far { input } else { damaged(input, &mut random) };
-        (input, Manner::any(lenient, &mut manner))
+        (if job.plan.far { input } else { damaged(input, &mut random) }, lenient)
     });
     let counterexample = differing::<Watched>(launch, odd_inputs::<Watched>().chain(traces), corners);
     corners.add(&on_the_way);
@@ -93,45 +90,40 @@ pub fn pair(launch: &Launch, amount: Amount, seed: u64, corners: &mut Corners) -
 
 pub fn chain(launch: &Launch, amount: usize, seed: u64, corners: &mut Corners) -> Option<Counterexample> {
     let mut random = Random::new(seed);
-    let mut manner = Random::new(!seed);
     let traces = chain::traffic::jobs(amount, &mut random).into_iter().map(|job| {
         let (input, lenient) = chain::traffic::generated(&job, random.draw());
-        let input = if job.far() { input } else { damaged(input, &mut random) };
-        (input, Manner::any(lenient, &mut manner))
+        (if job.far() { input } else { damaged(input, &mut random) }, lenient)
     });
     differing::<WatchedChain>(launch, odd_chains().chain(traces), corners)
 }
 
-/// The first input on which the program prints other lines than the reference does, each run in its manner.
+/// The first input on which the program prints other lines than the reference does. Some inputs are for a lenient run.
 fn differing<T: Traced>(
     launch: &Launch,
-    mut inputs: impl Iterator<Item = (Vec<u8>, Manner)>,
+    mut inputs: impl Iterator<Item = (Vec<u8>, bool)>,
     corners: &mut Corners,
 ) -> Option<Counterexample> {
     let differing =
-        inputs.find(|(input, manner)| expected::<T>(input, *manner, corners) != printed(launch, input, *manner));
-    differing.map(|(input, manner)| smallest_input::<T>(launch, input, manner))
+        inputs.find(|(input, lenient)| expected::<T>(input, *lenient, corners) != printed(launch, input, *lenient));
+    differing.map(|(input, lenient)| smallest_input::<T>(launch, input, lenient))
 }
 
 /// Inputs with no part, or none that there is.
 const NO_PART: [&[u8]; 6] = [&[], &[0], &[0xFF], &[0, 0], &[0xFF, 0], &[1, 0xFF, 0, 0, 0, 0]];
 
-/// Strict and lenient by turns, without the high-water marks and with them.
-const BY_TURNS: [Manner; 4] = [Manner::STRICT, Manner::LENIENT, Manner::HIGH, Manner::HIGH_LENIENT];
-
 /// Inputs that hold no trace, or none to its end, strict and lenient by turns. They are odd in number for each part, so that
 /// what is strict for the one part is lenient for the other.
-fn odd_inputs<T: Traced>() -> impl Iterator<Item = (Vec<u8>, Manner)> {
+fn odd_inputs<T: Traced>() -> impl Iterator<Item = (Vec<u8>, bool)> {
     let mut inputs = NO_PART.map(<[u8]>::to_vec).to_vec();
     for part in [[0, 0xFF], [1, 9]] {
         let [reset, still] = [[0x4D, 0x98, 0, 0], [0xCF, 0x98, 0, 0]].map(|record| record.repeat(T::BYTES / 4));
         inputs.extend(cut_short(&part, &reset, &still));
     }
-    inputs.into_iter().zip(BY_TURNS.into_iter().cycle())
+    inputs.into_iter().zip([false, true].into_iter().cycle())
 }
 
 /// The same for the chain, also with no number of parts, or one out of bounds.
-fn odd_chains() -> impl Iterator<Item = (Vec<u8>, Manner)> {
+fn odd_chains() -> impl Iterator<Item = (Vec<u8>, bool)> {
     let mut inputs = NO_PART.map(<[u8]>::to_vec).to_vec();
     let reset = [0x4D, 0xD8, 0, 0, 0, 0xFF, 0xFF];
     let still = [0xCF, 0x98, 0, 0, 0, 0xFF, 0xFF];
@@ -140,7 +132,7 @@ fn odd_chains() -> impl Iterator<Item = (Vec<u8>, Manner)> {
         inputs.extend([0, 1, 9, 16, 0xFF].map(|length| [&part[..], &[length], &reset].concat()));
         inputs.extend(cut_short(&[&part[..], &[length as u8]].concat(), &reset, &still));
     }
-    inputs.into_iter().zip(BY_TURNS.into_iter().cycle())
+    inputs.into_iter().zip([false, true].into_iter().cycle())
 }
 
 /// A sample before the reset, and every number of bytes too few for a sample, after a reset and after nothing.
@@ -168,22 +160,21 @@ fn damaged(mut input: Vec<u8>, random: &mut Random) -> Vec<u8> {
     input
 }
 
-fn smallest_input<T: Traced>(launch: &Launch, input: Vec<u8>, manner: Manner) -> Counterexample {
-    let told = |input: &[u8]| expected::<T>(input, manner, &mut Corners::default());
+fn smallest_input<T: Traced>(launch: &Launch, input: Vec<u8>, lenient: bool) -> Counterexample {
+    let told = |input: &[u8]| expected::<T>(input, lenient, &mut Corners::default());
     let (head, samples) = input.split_at(input.len().min(T::HEAD));
     let samples: Vec<&[u8]> = samples.chunks(T::BYTES).collect();
     let whole = |samples: &[&[u8]]| [head, &samples.concat()].concat();
-    let first = first_difference(&told(&input), &printed(launch, &input, manner));
+    let first = first_difference(&told(&input), &printed(launch, &input, lenient));
     let cut = samples[..samples.len().min(first + 1)].to_vec();
-    let differs = |samples: &[&[u8]]| told(&whole(samples)) != printed(launch, &whole(samples), manner);
+    let differs = |samples: &[&[u8]]| told(&whole(samples)) != printed(launch, &whole(samples), lenient);
     let samples = if differs(&cut) { shrunk(cut, FOR_SHRINKING, differs) } else { samples };
     let input = whole(&samples);
     let hex: String = input.iter().take(4 * READABLE).map(|byte| format!("{byte:02X}")).collect();
-    let (ours, theirs) = (told(&input), printed(launch, &input, manner));
+    let (ours, theirs) = (told(&input), printed(launch, &input, lenient));
     let line = first_difference(&ours, &theirs);
     let (our, their) = (ours.lines().nth(line), theirs.lines().nth(line));
-    let words =
-        format!("{} {}: {hex}\nline {line}: expected {our:?}, got {their:?}", launch.program, manner.words().join(" "));
+    let words = format!("{}, lenient {lenient}: {hex}\nline {line}: expected {our:?}, got {their:?}", launch.program);
     Counterexample { input, words }
 }
 

@@ -4,7 +4,6 @@ mod list;
 
 pub use list::Corner;
 
-use crate::gauge::Gauge;
 use crate::model::{Mode, Model};
 use crate::part::PARTS;
 use crate::pins::Pins;
@@ -27,7 +26,6 @@ pub struct Corners {
     /// The last WCLK rise was the one at which a retransmit was seen.
     pub just_seen: bool,
     pub falls: Falls,
-    pub gauge: Gauge,
 }
 
 fn column(model: &Model) -> usize {
@@ -58,7 +56,6 @@ impl Default for Corners {
             refused_unsettled: None,
             just_seen: false,
             falls: Falls::default(),
-            gauge: Gauge::power_up(),
         }
     }
 }
@@ -67,7 +64,7 @@ impl Corners {
     /// What was seen last belongs to the trace before.
     pub fn begin_trace(&mut self) {
         (self.refused_rise, self.refused_unsettled, self.just_seen) = (false, None, false);
-        (self.falls, self.gauge) = (Falls::default(), Gauge::power_up());
+        self.falls = Falls::default();
     }
 
     pub fn note(&mut self, model: &Model, corner: Corner, reached: bool) {

@@ -11,7 +11,7 @@ pub use fields::{Fields, STATE_BYTES};
 pub use rules::Handed;
 
 use crate::corners::{Corner, Corners};
-use crate::library::{Aftermath, Call, Library, Mark, Numbers, Reply};
+use crate::library::{Aftermath, Call, Library, Numbers, Reply};
 use crate::model::Outcome;
 use crate::part::{Part, PARTS};
 use crate::pins::Pins;
@@ -69,7 +69,7 @@ impl<'a> Trial<'a> {
             calls.push(Call::right(handed.part, record));
             told.push(self.expected(&mut handed, record));
         }
-        let replies = self.library.handed_in(handed.part, &first.bytes(), &calls)?;
+        let replies = self.library.handed_in(&first.bytes(), &calls)?;
         replies.iter().for_each(|(reply, _)| *self.numbers.entry(reply.number).or_default() += 1);
         let place = (0..told.len()).find(|&place| told[place] != replies[place]);
         Ok(place.map(|place| {
@@ -86,9 +86,7 @@ impl<'a> Trial<'a> {
         let written = (memory[place] != word).then_some((place, memory[place]));
         note_corners(handed, outcome, &mut self.corners);
         note_falls(&before, Pins::of(record), outcome, &mut self.corners);
-        note_high_water(&Handed { fields: before, ..*handed }, outcome, &mut self.corners);
-        let mark = Mark::told(handed.high_water());
-        (Reply::told(outcome), Aftermath { state: handed.fields.bytes(), written, mark })
+        (Reply::told(outcome), Aftermath { state: handed.fields.bytes(), written })
     }
 }
 
@@ -115,23 +113,6 @@ fn note_falls(before: &Fields, pins: Pins, outcome: Outcome, corners: &mut Corne
         (Corner::HandedHighClean, rise && taken && enables.rt && !enables.clean),
         (Corner::HandedHighUnclean, rise && refused && enables.rt && enables.clean),
         (Corner::HandedUnstarted, taken && !started && !pins.rt && !enables.rt && !enables.clean),
-    ];
-    places.into_iter().filter(|&(_, there)| there).for_each(|(corner, _)| corners.note_input(corner));
-}
-
-/// The bounds of the mark, both of which 3 draws.
-fn note_high_water(before: &Handed, outcome: Outcome, corners: &mut Corners) {
-    let (mark, held, depth) = (u64::from(before.fields.high_water), before.held(), before.part.depth);
-    let taken = matches!(outcome, Outcome::Taken(_));
-    let refused = outcome == Outcome::Refused(3) && held <= depth;
-    let unstarted = refused && !before.fields.started;
-    let places = [
-        (Corner::HandedHighWaterAtDepth, taken && mark == depth && held < depth),
-        (Corner::HandedHighWaterOverDepth, refused && mark == depth + 1),
-        (Corner::HandedHighWaterAtHeld, taken && mark == held && held > 0),
-        (Corner::HandedHighWaterBelowHeld, refused && mark + 1 == held),
-        (Corner::HandedHighWaterUnstartedOver, unstarted && mark > depth),
-        (Corner::HandedHighWaterUnstartedBelow, unstarted && mark < held),
     ];
     places.into_iter().filter(|&(_, there)| there).for_each(|(corner, _)| corners.note_input(corner));
 }

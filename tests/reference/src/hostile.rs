@@ -11,7 +11,7 @@ use std::io::Result;
 use crate::corners::Corners;
 use crate::generator::{Generator, Plan};
 use crate::handed::STATE_BYTES;
-use crate::library::{Call, Library, Mark, MarkCall, Numbers, Reply};
+use crate::library::{Call, Library, Numbers, Reply};
 use crate::model::{Mode, Model};
 use crate::part::{Part, PARTS};
 use crate::random::Random;
@@ -23,19 +23,9 @@ use crate::trace::refill;
 pub struct Tally {
     pub calls: u64,
     pub numbers: Numbers,
-    /// Of the calls for the high-water mark.
-    pub marks: Numbers,
     /// Damaged states that pass 3, and those that do not.
     pub spelled: u64,
     pub unspelled: u64,
-}
-
-/// A call and one for the high-water mark after it, with what is to come of them.
-struct Planned {
-    call: Call,
-    reply: Reply,
-    mark_call: MarkCall,
-    mark: Mark,
 }
 
 pub struct Hostile<'a> {
@@ -109,22 +99,18 @@ impl<'a> Hostile<'a> {
     }
 
     /// Makes the calls and holds the replies to what is expected.
-    fn expect(&mut self, calls: &[Planned], words: &str) -> Result<()> {
-        let made: Vec<(Call, MarkCall)> = calls.iter().map(|planned| (planned.call, planned.mark_call)).collect();
+    fn expect(&mut self, calls: &[(Call, Reply)], words: &str) -> Result<()> {
+        let made: Vec<Call> = calls.iter().map(|&(call, _)| call).collect();
         let replies = self.library.watched(&made)?;
-        for (Planned { call, reply, mark_call, mark }, (got, got_mark)) in calls.iter().zip(&replies) {
-            self.count(got, got_mark);
-            self.judge(reply == got, || format!("{words}, {call:X?}: expected {reply:X?}, got {got:X?}"));
-            self.judge(mark == got_mark, || {
-                format!("{words}, after {call:X?}, {mark_call:X?}: expected {mark:X?}, got {got_mark:X?}")
-            });
+        for ((call, expected), reply) in calls.iter().zip(&replies) {
+            self.count(reply);
+            self.judge(expected == reply, || format!("{words}, {call:X?}: expected {expected:X?}, got {reply:X?}"));
         }
         Ok(())
     }
 
-    fn count(&mut self, reply: &Reply, mark: &Mark) {
+    fn count(&mut self, reply: &Reply) {
         self.tally.calls += 1;
         *self.tally.numbers.entry(reply.number).or_default() += 1;
-        *self.tally.marks.entry(mark.number()).or_default() += 1;
     }
 }

@@ -3,21 +3,18 @@
 //!
 //! The model: `part`, `pins`, `history`, `offsets`, `fall`, `refusals`, `model`; two of it side by side, `pair`; some in a row,
 //! `chain`. What it is tried on: `random`, `scenes`, `steering`, `generator`, `plans`, `trace`; and what of that has been come
-//! through: `corners`, `watch`; with `gauge`, who counts the words in memory from outside. The others that it is compared
-//! with: `program`, `manner`, `library`, `hostile`, `compare`, `shrink`. And `handed`, for states that no history leads to: a
-//! small model on the state's own fields, which `runs` is held to.
+//! through: `corners`, `watch`. The others that it is compared with: `program`, `library`, `hostile`, `compare`, `shrink`. And
+//! `handed`, for states that no history leads to: a small model on the state's own fields, which `runs` is held to.
 
 pub mod chain;
 pub mod compare;
 pub mod corners;
 pub mod fall;
-pub mod gauge;
 pub mod generator;
 pub mod handed;
 pub mod history;
 pub mod hostile;
 pub mod library;
-pub mod manner;
 pub mod model;
 pub mod offsets;
 pub mod pair;

@@ -1,10 +1,8 @@
 //! The C calls from outside: a driver process that is linked to the static library and does what it is told through pipes.
 
 mod comparison;
-mod mark;
 
 pub use comparison::Difference;
-pub use mark::{Mark, MarkCall};
 
 use std::collections::BTreeMap;
 use std::io::{BufReader, BufWriter, Read, Result, Write};
@@ -61,13 +59,11 @@ impl Call {
 /// What the driver says where no word has changed.
 const NO_WORD: usize = u32::MAX as usize;
 
-/// What a watched call has left: the state's bytes, the word of the memory that it has changed, and what is then read as the
-/// high-water mark.
+/// What a watched call has left: the state's bytes, and the word of the memory that it has changed.
 #[derive(Clone, Copy, PartialEq, Eq, Debug)]
 pub struct Aftermath {
     pub state: [u8; STATE_BYTES],
     pub written: Option<(usize, u32)>,
-    pub mark: Mark,
 }
 
 impl Reply {
@@ -158,15 +154,14 @@ impl Library {
         Ok((u32::from_le_bytes([a, b, c, d]), moved))
     }
 
-    /// For each the reply, and the high-water mark after it.
-    fn samples(&mut self, piece: &[(u32, bool)]) -> Result<Vec<(Reply, u64)>> {
+    fn samples(&mut self, piece: &[(u32, bool)]) -> Result<Vec<Reply>> {
         self.command(b'R', &[piece.len() as u32])?;
         for &(record, watch_memory) in piece {
             self.to.write_all(&[u8::from(watch_memory)])?;
             self.to.write_all(&record.to_be_bytes())?;
         }
         self.end_piece()?;
-        piece.iter().map(|_| Ok((self.reply_in_a_row()?, self.mark_in_a_row()?))).collect()
+        piece.iter().map(|_| self.reply_in_a_row()).collect()
     }
 
     fn reply_in_a_row(&mut self) -> Result<Reply> {
@@ -177,10 +172,6 @@ impl Library {
         })
     }
 
-    fn mark_in_a_row(&mut self) -> Result<u64> {
-        self.receive().map(u32::from_be_bytes).map(u64::from)
-    }
-
     fn watch(&mut self, call: &Call) -> Result<()> {
         self.command(b'W', &[call.part])?;
         self.to.write_all(&call.record.to_be_bytes())?;
@@ -189,29 +180,20 @@ impl Library {
         lengths.iter().try_for_each(|length| self.to.write_all(&length.to_le_bytes()))
     }
 
-    /// Several calls, each made twice and watched on all sides, and after each one for the high-water mark.
-    pub fn watched(&mut self, calls: &[(Call, MarkCall)]) -> Result<Vec<(Reply, Mark)>> {
-        for (call, mark_call) in calls {
-            self.watch(call)?;
-            self.ask_mark(mark_call)?;
-        }
+    /// Several calls, each made twice and watched on all sides.
+    pub fn watched(&mut self, calls: &[Call]) -> Result<Vec<Reply>> {
+        calls.iter().try_for_each(|call| self.watch(call))?;
         self.end_piece()?;
-        calls.iter().map(|_| Ok((self.reply_watched()?, self.mark()?))).collect()
+        calls.iter().map(|_| self.reply_watched()).collect()
     }
 
     /// The same on a state of the caller's making, with what each call has left.
-    pub fn handed_in(
-        &mut self,
-        part: Part,
-        state: &[u8; STATE_BYTES],
-        calls: &[Call],
-    ) -> Result<Vec<(Reply, Aftermath)>> {
+    pub fn handed_in(&mut self, state: &[u8; STATE_BYTES], calls: &[Call]) -> Result<Vec<(Reply, Aftermath)>> {
         self.command(b'T', &[])?;
         self.to.write_all(state)?;
         for call in calls {
             self.watch(call)?;
             self.command(b'A', &[])?;
-            self.ask_mark(&MarkCall::right(part))?;
         }
         self.end_piece()?;
         calls.iter().map(|_| Ok((self.reply_watched()?, self.aftermath()?))).collect()
@@ -221,7 +203,7 @@ impl Library {
         let state = self.receive()?;
         let place = u32::from_le_bytes(self.receive()?) as usize;
         let word = u32::from_be_bytes(self.receive()?);
-        Ok(Aftermath { state, written: (place != NO_WORD).then_some((place, word)), mark: self.mark()? })
+        Ok(Aftermath { state, written: (place != NO_WORD).then_some((place, word)) })
     }
 
     /// The state's bytes as they are.

@@ -118,12 +118,12 @@ struct Tried {
 impl Tried {
     /// Damage that never spells a state, or always does, tries nothing; and each number that can come is to be met.
     fn enough(&self) -> bool {
-        let Tally { spelled, unspelled, numbers, marks, .. } = &self.hostile;
+        let Tally { spelled, unspelled, numbers, .. } = &self.hostile;
         let all_met = |numbers: &Numbers, wanted: &[u32]| wanted.iter().all(|number| numbers.contains_key(number));
         let (wrong_calls, by_pins) = ([0, 1, 2, 3, 4], [5, 6, 7, 8, 9, 10, 12]);
         let hostile = all_met(numbers, &wrong_calls) && all_met(numbers, &by_pins);
         let handed = all_met(&self.handed, &[0, 3]) && all_met(&self.handed, &by_pins);
-        *spelled > 0 && *unspelled > 0 && hostile && handed && all_met(marks, &[0, 1, 2, 3])
+        *spelled > 0 && *unspelled > 0 && hostile && handed
     }
 }
 
@@ -146,7 +146,6 @@ fn report(corners: &Corners, tried: &Tried, wrong: &[Counterexample], seconds: u
     let hostile = &tried.hostile;
     corners.print();
     println!("hostile calls by number: {:?}", hostile.numbers);
-    println!("calls for the high-water mark by number: {:?}", hostile.marks);
     println!("damaged states: {} pass 3, {} do not", hostile.spelled, hostile.unspelled);
     println!("calls on states never reached, by number: {:?}", tried.handed);
     println!("pair: {} samples, chain: {} samples", corners.pair_samples, corners.chain_samples);

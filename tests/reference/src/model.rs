@@ -33,8 +33,6 @@ pub struct Model {
     pub output: u32,
     /// FWFT: the output register holds a word that no read has taken.
     pub untaken: bool,
-    /// The most words that memory has held after a sample since the reset.
-    pub high_water: u64,
     pub wclk: bool,
     pub rclk: bool,
     pub fall: Fall,
@@ -53,7 +51,6 @@ impl Model {
             retransmit: 0,
             output: 0,
             untaken: false,
-            high_water: 0,
             wclk: true,
             rclk: true,
             fall: Fall::power_up(),
@@ -78,7 +75,6 @@ impl Model {
         } else {
             self.run_clocks(pins, memory);
         }
-        self.high_water = self.high_water.max(self.held());
         (self.wclk, self.rclk) = (pins.wclk, pins.rclk);
         self.fall.see(pins);
         self.answer(pins)
@@ -163,7 +159,6 @@ impl Model {
         self.retransmit = 0;
         self.output = 0;
         self.untaken = false;
-        self.high_water = 0;
     }
 
     fn answer(&self, pins: Pins) -> u32 {

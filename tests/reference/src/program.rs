@@ -3,11 +3,9 @@
 use std::fmt::Write as _;
 use std::io::{Read, Write};
 use std::process::{Command, Stdio};
-use std::slice;
 use std::thread;
 
 use crate::corners::{Corner, Corners};
-use crate::manner::Manner;
 use crate::model::{Model, Outcome};
 use crate::part::{Part, PARTS};
 
@@ -21,15 +19,18 @@ pub struct Launch {
 impl Launch {
     pub fn command(&self) -> Command {
         let mut command = Command::new(&self.native);
-        // What it says for people is compared elsewhere.
-        command.arg(&self.program).stdin(Stdio::piped()).stdout(Stdio::piped()).stderr(Stdio::null());
+        command.arg(&self.program).stdin(Stdio::piped()).stdout(Stdio::piped());
         command
     }
 }
 
 /// The lines that the program prints to an input.
-pub fn printed(launch: &Launch, input: &[u8], manner: Manner) -> String {
-    let mut child = launch.command().args(manner.words()).spawn().expect("the trace program starts");
+pub fn printed(launch: &Launch, input: &[u8], lenient: bool) -> String {
+    let mut command = launch.command();
+    if lenient {
+        command.arg("lenient");
+    }
+    let mut child = command.spawn().expect("the trace program starts");
     let mut to = child.stdin.take().expect("its input is a pipe");
     let mut from = child.stdout.take().expect("its output is a pipe");
     let mut lines = String::new();
@@ -54,8 +55,6 @@ pub trait Traced: Sized {
     fn power_up(part: Part, rest: &[u8], corners: &mut Corners) -> Result<Self, u32>;
     /// What the line of a sample says after its index, or the number under which the sample is refused.
     fn line(&mut self, sample: &[u8], corners: &mut Corners) -> Result<String, u32>;
-    /// The parts, in the order in which their high-water marks are told.
-    fn parts(&self) -> &[Model];
 }
 
 /// The corners of how a trace begins and ends.
@@ -64,8 +63,6 @@ pub struct Ends {
     pub unknown_part: Corner,
     pub no_samples: Corner,
     pub lenient: Corner,
-    /// Lines that end with marks.
-    pub high: Corner,
     pub whole: Corner,
     /// By the number that ended a strict run.
     pub stops: &'static [(u32, Corner)],
@@ -92,7 +89,7 @@ fn begun<'a, T: Traced>(input: &'a [u8], corners: &mut Corners) -> Result<(T, &'
 }
 
 /// The lines that "Bench figures" asks for, by the reference.
-pub fn expected<T: Traced>(input: &[u8], manner: Manner, corners: &mut Corners) -> String {
+pub fn expected<T: Traced>(input: &[u8], lenient: bool, corners: &mut Corners) -> String {
     let (mut traced, samples): (T, _) = match begun(input, corners) {
         Ok(begun) => begun,
         Err(number) => return format!("end 0 {number}\n"),
@@ -104,11 +101,10 @@ pub fn expected<T: Traced>(input: &[u8], manner: Manner, corners: &mut Corners) 
     for (index, sample) in samples.clone().enumerate() {
         match traced.line(sample, corners) {
             Ok(line) => {
-                let marks = if manner.high() { marks(traced.parts()) } else { String::new() };
-                writeln!(lines, "{index} {line}{marks}").expect("a string takes all");
+                writeln!(lines, "{index} {line}").expect("a string takes all");
                 taken += 1;
             }
-            Err(number) if manner.lenient() => {
+            Err(number) if lenient => {
                 writeln!(lines, "{index} refused {number}").expect("a string takes all");
             }
             Err(number) => {
@@ -121,26 +117,18 @@ pub fn expected<T: Traced>(input: &[u8], manner: Manner, corners: &mut Corners) 
         corners.note_input(T::ENDS.left_over[left_over - 1]);
         end = 4;
     }
-    T::ENDS.note(manner, end, samples.len(), corners);
+    T::ENDS.note(lenient, end, samples.len(), corners);
     writeln!(lines, "end {taken} {end}").expect("a string takes all");
     lines
 }
 
-/// The high-water mark of each part, after a blank.
-fn marks(parts: &[Model]) -> String {
-    parts.iter().map(|part| format!(" {}", part.high_water)).collect()
-}
-
 impl Ends {
-    fn note(&self, manner: Manner, end: u32, samples: usize, corners: &mut Corners) {
+    fn note(&self, lenient: bool, end: u32, samples: usize, corners: &mut Corners) {
         if samples == 0 {
             corners.note_input(self.no_samples);
         }
-        if manner.high() {
-            corners.note_input(self.high);
-        }
         let stop = self.stops.iter().find(|&&(number, _)| number == end).map(|&(_, corner)| corner);
-        corners.note_input(if manner.lenient() { self.lenient } else { stop.unwrap_or(self.whole) });
+        corners.note_input(if lenient { self.lenient } else { stop.unwrap_or(self.whole) });
     }
 }
 
@@ -157,7 +145,6 @@ impl Traced for Single {
         unknown_part: Corner::UnknownPart,
         no_samples: Corner::NoRecords,
         lenient: Corner::LenientRun,
-        high: Corner::HighRun,
         whole: Corner::StrictWhole,
         stops: &[
             (4, Corner::StrictStopFour),
@@ -182,9 +169,5 @@ impl Traced for Single {
             Outcome::Taken(answer) => Ok(format!("{answer:06X}")),
             Outcome::Refused(number) => Err(number),
         }
-    }
-
-    fn parts(&self) -> &[Model] {
-        slice::from_ref(&self.model)
     }
 }

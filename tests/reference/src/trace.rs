@@ -20,16 +20,9 @@ pub struct Trace {
     pub steps: Vec<Step>,
 }
 
-/// What a record comes to: its outcome, and the high-water mark after it.
-#[derive(Clone, Copy)]
-pub struct Effect {
-    pub outcome: Outcome,
-    pub high_water: u64,
-}
-
-/// What the reference says to a trace: what each record comes to, and the memory left.
+/// What the reference says to a trace: an outcome for each record, and the memory left.
 pub struct Told {
-    pub effects: Vec<Effect>,
+    pub outcomes: Vec<Outcome>,
     pub memory: Vec<u32>,
 }
 
@@ -57,17 +50,14 @@ impl Trace {
     pub fn told(&self) -> Told {
         let mut model = Model::power_up(self.part);
         let mut memory = first_memory(self.part);
-        let mut effects = Vec::with_capacity(self.steps.len());
+        let mut outcomes = Vec::with_capacity(self.steps.len());
         for &step in &self.steps {
             match step {
-                Step::Record(record) => {
-                    let outcome = model.sample(record, &mut memory);
-                    effects.push(Effect { outcome, high_water: model.high_water });
-                }
+                Step::Record(record) => outcomes.push(model.sample(record, &mut memory)),
                 Step::Refill(seed) => refill(&mut memory, seed),
             }
         }
-        Told { effects, memory }
+        Told { outcomes, memory }
     }
 
     /// The trace as the trace program reads it.
@@ -93,7 +83,7 @@ pub fn generated(job: Job, refills: bool, seed: u64, corners: &mut Corners) -> (
     let mut memory = first_memory(job.part);
     corners.begin_trace();
     let mut steps = Vec::with_capacity(job.records + 2);
-    let mut effects = Vec::with_capacity(job.records);
+    let mut outcomes = Vec::with_capacity(job.records);
     for _ in 0..job.records {
         if refills && random.one_in(job.records as u64 / 2 + 1) {
             let seed = random.bits();
@@ -102,8 +92,7 @@ pub fn generated(job: Job, refills: bool, seed: u64, corners: &mut Corners) -> (
         }
         let record = generator.next(&model);
         steps.push(Step::Record(record));
-        let outcome = corners.watch(&mut model, record, &mut memory);
-        effects.push(Effect { outcome, high_water: model.high_water });
+        outcomes.push(corners.watch(&mut model, record, &mut memory));
     }
-    (Trace { part: job.part, steps }, Told { effects, memory })
+    (Trace { part: job.part, steps }, Told { outcomes, memory })
 }

@@ -1,7 +1,6 @@
 //! Which corners a sample comes through, told from the model before and after it.
 
 mod falls;
-mod high_water;
 mod offsets;
 mod refused;
 mod resets;
@@ -37,7 +36,6 @@ impl Corners {
         if let Outcome::Refused(number) = outcome {
             self.refused(&before, pins, number);
             self.refused_by_fall(&before, pins, number);
-            self.refused_to_raise(&before, pins, number);
             self.refused_rise = rises;
             self.refused_unsettled = (number == 12).then_some(pins);
             return outcome;
@@ -46,7 +44,6 @@ impl Corners {
         self.refused_rise = false;
         self.unsettled(&before, pins, model);
         self.taken_by_fall(&before, pins, model);
-        self.gauged(pins, model);
         if pins.in_reset() {
             self.reset(&before, pins, model);
         } else {
@@ -74,7 +71,6 @@ impl Corners {
             self.retransmit(&event);
         }
         self.flags(&event);
-        self.high_water(&event);
     }
 
     fn crossing(&mut self, event: &Event, own: &History, other: &History, corners: [Corner; 2]) {

@@ -5,7 +5,6 @@ use reference::chain::record::{Record, MOST};
 use reference::chain::traffic::{generated, jobs, still};
 use reference::chain::LENGTHS;
 use reference::corners::Corners;
-use reference::manner::Manner;
 use reference::part::{Part, PARTS};
 use reference::pins::Pins;
 use reference::program::expected;
@@ -205,11 +204,11 @@ fn bytes(digits: &str) -> Vec<u8> {
 }
 
 fn strict(digits: &str) -> String {
-    expected::<WatchedChain>(&bytes(digits), Manner::STRICT, &mut Corners::default())
+    expected::<WatchedChain>(&bytes(digits), false, &mut Corners::default())
 }
 
 fn lenient(digits: &str) -> String {
-    expected::<WatchedChain>(&bytes(digits), Manner::LENIENT, &mut Corners::default())
+    expected::<WatchedChain>(&bytes(digits), true, &mut Corners::default())
 }
 
 #[test]
@@ -234,21 +233,6 @@ fn bytes_left_over() {
         assert_eq!(lenient(&format!("00FF02{left_over}")), "end 0 4\n");
         assert_eq!(strict(&format!("00FF02{RESET}{left_over}")), "0 6C0000\nend 1 4\n");
     }
-}
-
-/// A word that is carried over leaves its mark in both parts, until a Partial Reset.
-#[test]
-fn high_water_marks() {
-    let carried = "CF98000080FFFFCF98000000FFFF".repeat(4);
-    let lines = expected::<WatchedChain>(
-        &bytes(&format!("00FF02{RESET}{WRITE}{STILL}{carried}{WRITE}{STILL}{WRITE}8F98000000FFFF")),
-        Manner::HIGH,
-        &mut Corners::default(),
-    );
-    let marks: Vec<&str> =
-        lines.lines().map(|line| line.split_once(" 6C0000 ").map_or(line, |(_, marks)| marks)).collect();
-    assert_eq!(marks[..8], ["0 0", "1 0", "1 0", "1 0", "1 0", "1 0", "1 0", "1 0"]);
-    assert_eq!(marks[8..], ["1 0", "1 1", "1 1", "1 1", "1 1", "2 1", "0 0", "end 15 0"]);
 }
 
 /// Each sample before any reset, and after one in which all clocks were LOW.

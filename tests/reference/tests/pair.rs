@@ -1,7 +1,6 @@
 //! Two parts side by side: figures on the reference itself, and what comes of waiting for the composite flags.
 
 use reference::corners::Corners;
-use reference::manner::Manner;
 use reference::pair::onlooker::{Watched, Words};
 use reference::pair::traffic::{generated, jobs};
 use reference::pair::Pair;
@@ -35,11 +34,11 @@ fn input(samples: &[[u32; 2]]) -> Vec<u8> {
 }
 
 fn strict(input: &[u8]) -> String {
-    expected::<Watched>(input, Manner::STRICT, &mut Corners::default())
+    expected::<Watched>(input, false, &mut Corners::default())
 }
 
 fn lenient(samples: &[[u32; 2]]) -> String {
-    expected::<Watched>(&input(samples), Manner::LENIENT, &mut Corners::default())
+    expected::<Watched>(&input(samples), true, &mut Corners::default())
 }
 
 fn words(samples: &[[u32; 2]]) -> [Words; 2] {
@@ -181,19 +180,6 @@ fn falls_of_one_half() {
         assert_eq!(pair.sample([RETRANSMIT; 2]).err(), either);
         pair.sample([STILL; 2]).expect("it is taken");
         pair.sample([RETRANSMIT; 2]).expect("a clean fall of both");
-    }
-}
-
-/// A word is read from the left half alone, and another is written to both; the refused sample has no marks.
-#[test]
-fn high_water_marks() {
-    let mut samples = vec![[STANDARD; 2], [WRITE; 2], [READ_CLOCK, READ_CLOCK ^ READ_SKEW]];
-    samples.extend([[STILL; 2], [READ_CLOCK; 2], [STILL; 2], [READ; 2], [STILL; 2], [STILL, READ], [WRITE; 2]]);
-    for manner in [Manner::LENIENT_HIGH, Manner::HIGH_LENIENT] {
-        let lines = expected::<Watched>(&input(&samples), manner, &mut Corners::default());
-        let marks = "0 10 AC0000 AC0000 0 0\n1 10 AC0000 AC0000 1 1\n2 10 AC0000 AC0000 1 1\n";
-        assert!(lines.starts_with(marks));
-        assert!(lines.ends_with("7 10 AC0041 EC0000 1 1\n8 refused 11\n9 10 AC0041 EC0000 1 2\nend 9 0\n"));
     }
 }
 

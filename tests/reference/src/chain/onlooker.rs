@@ -5,7 +5,6 @@ use std::collections::VecDeque;
 
 use super::record::Record;
 use super::Chain;
-use crate::gauge::Gauge;
 use crate::model::Model;
 use crate::pair::levels;
 use crate::part::Part;
@@ -95,7 +94,6 @@ pub struct WatchedChain {
     /// What the last answer showed: room in the first part, a word ready at the last.
     pub room: bool,
     pub ready: bool,
-    gauges: Vec<Gauge>,
     refused_rise: bool,
     taken_samples: u64,
 }
@@ -112,7 +110,6 @@ impl WatchedChain {
             under_way: VecDeque::new(),
             room: false,
             ready: false,
-            gauges: vec![Gauge::power_up(); length],
             refused_rise: false,
             taken_samples: 0,
         }
@@ -144,7 +141,6 @@ impl WatchedChain {
         } else {
             self.see_words(record, before);
         }
-        self.gauge(before);
         if self.under_way.len() <= FEW || self.taken_samples.is_multiple_of(NOW_AND_THEN) {
             assert!(self.chain.under_way().eq(self.under_way.iter().copied()), "the words are not those in the parts");
         }
@@ -162,13 +158,6 @@ impl WatchedChain {
         }
         if before.first().accepts() {
             self.under_way.push_back(record.pins.data);
-        }
-    }
-
-    fn gauge(&mut self, before: &Before) {
-        for ((gauge, part), glance) in self.gauges.iter_mut().zip(&self.chain.parts).zip(&before.parts) {
-            gauge.see(glance.pins, !part.full(), part.ready());
-            assert_eq!(gauge.highest, part.high_water, "a part's mark is not what the pins and flags tell");
         }
     }
 

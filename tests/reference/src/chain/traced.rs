@@ -4,7 +4,6 @@ use super::onlooker::WatchedChain;
 use super::record::{self, Record};
 use super::LENGTHS;
 use crate::corners::{Corner, Corners};
-use crate::model::Model;
 use crate::part::Part;
 use crate::program::{Ends, Traced};
 
@@ -16,7 +15,6 @@ impl Traced for WatchedChain {
         unknown_part: Corner::ChainUnknownPart,
         no_samples: Corner::ChainNoRecords,
         lenient: Corner::ChainLenientRun,
-        high: Corner::ChainHighRun,
         whole: Corner::ChainStrictWhole,
         stops: &[
             (4, Corner::ChainStopFour),
@@ -60,9 +58,5 @@ impl Traced for WatchedChain {
                 Err(number)
             }
         }
-    }
-
-    fn parts(&self) -> &[Model] {
-        &self.chain.parts
     }
 }

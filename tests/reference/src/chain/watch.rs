@@ -147,7 +147,6 @@ impl Corners {
         BRIM.into_iter().for_each(|(parts, corner)| note(corner, brim && length == parts));
         let drained = chain.parts.iter().all(empty_again);
         DRAINED.into_iter().for_each(|(parts, corner)| note(corner, drained && length == parts));
-        note(Corner::ChainHighWaterKept, drained && chain.parts.iter().all(|part| part.high_water > 1));
     }
 
     /// Where it matters which part an answer is taken from.
@@ -161,7 +160,6 @@ impl Corners {
         note(Corner::ChainApartAlmostEmpty, first.reads.latest().almost != last.reads.latest().almost);
         note(Corner::ChainApartAlmostFull, first.writes.latest().almost != last.writes.latest().almost);
         note(Corner::ChainApartData, first.shown() != last.shown());
-        note(Corner::ChainApartHighWater, first.high_water != last.high_water);
     }
 
     pub(super) fn chain_refused(&mut self, record: Record, before: &Before, chain: &Chain, number: u32) {

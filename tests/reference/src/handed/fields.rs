@@ -52,7 +52,6 @@ pub struct Fields {
     pub serial: u32,
     pub serial_bits: u8,
     pub shown: Option<u16>,
-    pub high_water: u16,
     pub enables: Enables,
 }
 
@@ -84,7 +83,7 @@ impl Fields {
             counts.concat(),
             halves(&[self.n, self.m]),
             self.serial.to_le_bytes().to_vec(),
-            halves(&[self.shown.unwrap_or(0), self.high_water]),
+            halves(&[self.shown.unwrap_or(0), 0]),
             self.output.to_le_bytes().to_vec(),
             [rt, ren, wen, clean].map(u8::from).to_vec(),
         ];
@@ -123,7 +122,6 @@ impl Fields {
             serial: word(36),
             serial_bits: bytes[15],
             shown: level(11).then(|| half(40)),
-            high_water: half(42),
             enables: Enables { rt: level(48), ren: level(49), wen: level(50), clean: level(51) },
         };
         (fields.bytes() == *bytes).then_some(fields)

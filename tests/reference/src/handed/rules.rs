@@ -80,7 +80,7 @@ impl Judged for Handed {
 impl Handed {
     /// Row 3 of the table, clause by clause.
     pub fn passes(&self) -> bool {
-        let Fields { write, read, n, m, shown, output, serial, serial_bits, high_water, .. } = self.fields;
+        let Fields { write, read, n, m, shown, output, serial, serial_bits, .. } = self.fields;
         let narrow = |offset: u16| u64::from(offset) < 1 << self.part.offset_bits;
         let near = |count: u16| behind(write.count, count) <= self.part.depth;
         narrow(n)
@@ -92,7 +92,6 @@ impl Handed {
             && near(read.count)
             && [write.first, write.second, read.first, read.second].into_iter().all(near)
             && behind(write.count, read.second) <= behind(write.count, read.count)
-            && (self.held()..=self.part.depth).contains(&u64::from(high_water))
     }
 
     pub fn sample(&mut self, record: u32, memory: &mut [u32]) -> Outcome {
@@ -114,7 +113,6 @@ impl Handed {
         } else {
             self.run_clocks(pins, memory);
         }
-        self.fields.high_water = self.fields.high_water.max(self.held() as u16);
         (self.fields.write.clock, self.fields.read.clock) = (pins.wclk, pins.rclk);
         let clean = self.fields.enables.clean_with(pins);
         self.fields.enables = Enables { rt: pins.rt, ren: pins.ren, wen: pins.wen, clean };
@@ -135,7 +133,6 @@ impl Handed {
         fields.read = Side::cleared(pins.rclk, false);
         (fields.passed, fields.view, fields.setup) = (false, 2, 0);
         (fields.untaken, fields.output, fields.shown) = (false, 0, None);
-        fields.high_water = 0;
     }
 
     fn run_clocks(&mut self, pins: Pins, memory: &mut [u32]) {
@@ -224,11 +221,6 @@ impl Handed {
             fields.shown = Some(if fields.read_m_next { fields.m } else { fields.n });
             fields.read_m_next = !fields.read_m_next;
         }
-    }
-
-    /// The mark, or the number under which it is not told.
-    pub fn high_water(&self) -> Result<u64, u32> {
-        Some(u64::from(self.fields.high_water)).filter(|_| self.passes()).ok_or(3)
     }
 
     pub fn held(&self) -> u64 {

@@ -79,8 +79,6 @@ pub fn passing(part: Part, random: &mut Random) -> Handed {
     let mode = random.pick(&[Mode::Standard, Mode::FallThrough]);
     let serial_bits = up_to(u64::from(part.serial_bits()) - 1, &[u64::from(part.offset_bits)], random) as u8;
     let shown = offset(part, &[u64::from(n), u64::from(m)], random);
-    let held = u64::from(write.count.wrapping_sub(read.count));
-    let high_water = held + up_to(part.depth - held, &[], random);
     let fields = Fields {
         started: !random.one_in(32),
         write,
@@ -99,17 +97,15 @@ pub fn passing(part: Part, random: &mut Random) -> Handed {
         serial: up_to((1 << serial_bits) - 1, &[], random) as u32,
         serial_bits,
         shown: random.one_in(3).then_some(shown),
-        high_water: high_water as u16,
         enables: enables(random),
     };
     Handed { part, fields }
 }
 
 /// How many ways there are to fail.
-pub const CLAUSES: u64 = 13;
+pub const CLAUSES: u64 = 11;
 
-/// A state that passes but for one clause, and for that mostly by one. Where the read count is too far behind, the words held are
-/// above any mark that the depth allows, too.
+/// A state that passes but for one clause, and for that mostly by one.
 pub fn failing(part: Part, clause: u64, random: &mut Random) -> Handed {
     let mut handed = passing(part, random);
     let fields = &mut handed.fields;
@@ -128,13 +124,7 @@ pub fn failing(part: Part, clause: u64, random: &mut Random) -> Handed {
         7 => fields.write.first = far,
         8 => fields.write.second = far,
         9 => fields.read.first = far,
-        10 => fields.read.second = back(fields.write.count, u64::from(held) + 1),
-        11 => fields.high_water = wide + 1,
-        _ => {
-            let held = held.max(1);
-            fields.read.count = back(fields.write.count, u64::from(held));
-            fields.high_water = if over == 0 { held - 1 } else { random.below(u64::from(held)) as u16 };
-        }
+        _ => fields.read.second = back(fields.write.count, u64::from(held) + 1),
     }
     handed
 }

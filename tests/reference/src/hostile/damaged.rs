@@ -2,10 +2,10 @@
 
 use std::io::Result;
 
-use super::{Hostile, Planned};
+use super::Hostile;
 use crate::generator::Generator;
 use crate::handed::{Fields, Handed};
-use crate::library::{Call, Mark, MarkCall, Reply};
+use crate::library::{Call, Reply};
 use crate::model::{Model, Outcome};
 use crate::pins::Pins;
 
@@ -23,12 +23,7 @@ impl Hostile<'_> {
         let mut calls = Vec::new();
         for record in self.records_and_reset(generator, model) {
             let outcome = handed.as_mut().map_or(Outcome::Refused(3), |handed| handed.sample(record, memory));
-            calls.push(Planned {
-                call: Call::right(model.part, record),
-                reply: Reply::told(outcome),
-                mark_call: MarkCall::right(model.part),
-                mark: Mark::told(handed.as_ref().map_or(Err(3), Handed::high_water)),
-            });
+            calls.push((Call::right(model.part, record), Reply::told(outcome)));
         }
         self.expect(&calls, "damaged state")
     }

@@ -3,16 +3,16 @@
 
 use std::io::Result;
 
-use super::{Hostile, Planned};
+use super::Hostile;
 use crate::corners::Corner;
 use crate::generator::{Generator, Plan};
 use crate::history::{first_stage, second_stage};
-use crate::library::{Call, Mark, MarkCall, Reply};
+use crate::library::{Call, Reply};
 use crate::model::{Mode, Model, Outcome};
 use crate::part::{Part, PARTS};
 use crate::random::Random;
 use crate::scenes::Scene;
-use crate::trace::{Effect, Step};
+use crate::trace::Step;
 
 impl Hostile<'_> {
     /// The deeper part where its states begin to be too much for the other.
@@ -36,10 +36,7 @@ impl Hostile<'_> {
 
     pub(super) fn brinks(&mut self) -> Result<()> {
         let depth = PARTS[0].depth;
-        // Below the depth for the stages alone; about it for the mark, which stays once it is above.
-        for held in [depth - 4, depth - 1] {
-            self.life_at_brink(Scene::Hover { held }, 100, |model, other| model.held() + 6 >= other.depth)?;
-        }
+        self.life_at_brink(Scene::Hover { held: depth }, 1_000, |model, other| model.held() + 2 >= other.depth)?;
         self.life_at_brink(Scene::Loading { n: 3, m: 5 }, 1, |model, other| {
             model.offsets.serial.len() as u32 + 1 >= other.serial_bits()
         })?;
@@ -53,29 +50,24 @@ impl Hostile<'_> {
         model: &mut Model,
         memory: &mut [u32],
     ) -> Result<()> {
-        let (mut steps, mut effects) = (Vec::new(), Vec::new());
+        let (mut steps, mut outcomes) = (Vec::new(), Vec::new());
         for _ in 0..calls {
             let record = generator.next(model);
             steps.push(Step::Record(record));
-            let outcome = model.sample(record, memory);
-            effects.push(Effect { outcome, high_water: model.high_water });
+            outcomes.push(model.sample(record, memory));
         }
-        let difference = self.library.compare_piece(&steps, &effects)?;
-        self.judge(difference.is_none(), || format!("on the way to a brink: {difference:?}"));
+        let difference = self.library.compare_piece(&steps, &outcomes)?;
+        self.judge(difference.is_none(), || format!("on the way to a brink: {difference:X?}"));
         Ok(())
     }
 
     /// The saved state given to the other part, and put back.
     pub(super) fn hand_over(&mut self, model: &Model, other: Part, record: u32, memory: &mut [u32]) -> Result<()> {
-        let mut taken_over = as_part(model, other);
-        let outcome = taken_over.as_mut().map_or(Outcome::Refused(3), |model| model.sample(record, memory));
-        let reply = Reply::told(outcome);
-        let mark = Mark::told(taken_over.map_or(Err(3), |model| Ok(model.high_water)));
-        let planned = Planned { call: Call::right(other, record), reply, mark_call: MarkCall::right(other), mark };
-        self.expect(&[planned], "as the other part")?;
+        let expected = Reply::told(sampled(model, other, record, memory));
+        self.expect(&[(Call::right(other, record), expected)], "as the other part")?;
         self.library.restore_state()?;
         match reasons(model, other).as_slice() {
-            [] if reply.number == 0 => self.corners.note_input(Corner::OtherPartTaken),
+            [] if expected.number == 0 => self.corners.note_input(Corner::OtherPartTaken),
             [reason] => self.corners.note_input(*reason),
             several if several.contains(&Corner::OtherShown) => self.corners.note_input(Corner::OtherShown),
             several if several.contains(&Corner::OtherReadCount) => self.corners.note_input(Corner::OtherReadCount),
@@ -100,15 +92,17 @@ fn reasons(model: &Model, part: Part) -> Vec<Corner> {
         (Corner::OtherShown, offsets.shown.is_some_and(too_wide)),
         (Corner::OtherSerial, offsets.serial.len() as u32 >= part.serial_bits()),
         (Corner::OtherReadCount, model.held() > part.depth),
-        (Corner::OtherHighWater, model.high_water > part.depth),
         (Corner::OtherStage, stages.iter().any(|stage| model.written() - stage.count > part.depth)),
     ];
     held.into_iter().filter(|&(_, holds)| holds).map(|(reason, _)| reason).collect()
 }
 
-/// The state in the other part's hands, if it is one of that part's.
-fn as_part(model: &Model, part: Part) -> Option<Model> {
+/// What the other part says to a record; its memory moves, the model does not.
+fn sampled(model: &Model, part: Part, record: u32, memory: &mut [u32]) -> Outcome {
+    if !reasons(model, part).is_empty() {
+        return Outcome::Refused(3);
+    }
     let mut other = model.clone();
     other.part = part;
-    reasons(model, part).is_empty().then_some(other)
+    other.sample(record, memory)
 }

@@ -2,10 +2,10 @@
 
 use std::io::Result;
 
-use super::{Hostile, Planned};
+use super::Hostile;
 use crate::generator::Generator;
 use crate::handed::STATE_BYTES;
-use crate::library::{Call, Mark, MarkCall, Reply};
+use crate::library::{Call, Reply};
 use crate::model::{Model, Outcome};
 use crate::part::PARTS;
 use crate::random::Random;
@@ -40,10 +40,7 @@ impl Hostile<'_> {
             let mut call = Call::right(model.part, generator.next(model));
             let spoiled = self.random.flip().then(|| self.spoil(&mut call));
             let outcome = spoiled.map_or_else(|| model.sample(call.record, memory), Outcome::Refused);
-            let mut mark_call = MarkCall::right(model.part);
-            let spoiled = self.random.one_in(4).then(|| self.spoil_mark(&mut mark_call));
-            let mark = Mark::told(spoiled.map_or(Ok(model.high_water), Err));
-            calls.push(Planned { call, reply: Reply::told(outcome), mark_call, mark });
+            calls.push((call, Reply::told(outcome)));
         }
         self.expect(&calls, "between right calls")
     }
@@ -71,22 +68,6 @@ impl Hostile<'_> {
             number = 1;
         }
         number
-    }
-
-    /// The same for the call that reads the high-water mark.
-    fn spoil_mark(&mut self, call: &mut MarkCall) -> u32 {
-        let wrongs = 1 + self.random.below(7);
-        if wrongs & 1 != 0 {
-            call.state_length = self.wrong_length(call.state_length);
-        }
-        if wrongs & 2 != 0 {
-            call.words_length = self.wrong_length(call.words_length);
-        }
-        if wrongs & 4 != 0 {
-            call.part = wrong_part(&mut self.random);
-            return 1;
-        }
-        2
     }
 
     /// Near the right length, far from it, and right but for bits that a narrower number would not hold.

@@ -4,7 +4,7 @@ use std::io::Result;
 
 use super::{Library, Reply};
 use crate::model::Outcome;
-use crate::trace::{Effect, Step, Told, Trace, FIRST_REFILL};
+use crate::trace::{Step, Told, Trace, FIRST_REFILL};
 
 /// Samples sent in one piece: its replies fit into the smallest pipe, so that neither process waits for ever.
 const PIECE: usize = 512;
@@ -20,7 +20,7 @@ impl Library {
     pub fn difference(&mut self, trace: &Trace, told: &Told) -> Option<Difference> {
         self.compare(trace, told).unwrap_or_else(|_| {
             self.restart();
-            Some(Difference { records: told.effects.len(), words: "the library's process ended".to_string() })
+            Some(Difference { records: told.outcomes.len(), words: "the library's process ended".to_string() })
         })
     }
 
@@ -29,7 +29,9 @@ impl Library {
         self.refill(FIRST_REFILL)?;
         let mut compared = 0;
         for piece in trace.steps.split_inclusive(|step| matches!(step, Step::Refill(_))) {
-            if let Some((index, words)) = self.compare_piece(piece, &told.effects[compared..])? {
+            let outcomes = &told.outcomes[compared..];
+            if let Some((index, reply)) = self.compare_piece(piece, outcomes)? {
+                let words = format!("expected {:X?}, got {reply:X?}", Reply::told(outcomes[index]));
                 return Ok(Some(Difference { records: compared + index + 1, words }));
             }
             compared += piece.iter().filter(|step| matches!(step, Step::Record(_))).count();
@@ -38,12 +40,12 @@ impl Library {
         let place = (0..memory.len()).find(|&place| memory[place] != told.memory[place]);
         Ok(place.map(|place| {
             let words = format!("word {place}: expected {:08X}, got {:08X}", told.memory[place], memory[place]);
-            Difference { records: told.effects.len(), words }
+            Difference { records: told.outcomes.len(), words }
         }))
     }
 
-    /// Records up to a refill, and the first that comes out otherwise, in words.
-    pub fn compare_piece(&mut self, steps: &[Step], effects: &[Effect]) -> Result<Option<(usize, String)>> {
+    /// Records up to a refill, and the first that comes out otherwise.
+    pub fn compare_piece(&mut self, steps: &[Step], outcomes: &[Outcome]) -> Result<Option<(usize, Reply)>> {
         let mut compared = 0;
         for steps in steps.chunks(PIECE) {
             let mut piece = Vec::with_capacity(steps.len());
@@ -51,18 +53,16 @@ impl Library {
             for &step in steps {
                 match step {
                     Step::Record(record) => {
-                        let refused = matches!(effects[compared + piece.len()].outcome, Outcome::Refused(_));
+                        let refused = matches!(outcomes[compared + piece.len()], Outcome::Refused(_));
                         piece.push((record, refused));
                     }
                     Step::Refill(with) => seed = Some(with),
                 }
             }
             let replies = self.samples(&piece)?;
-            for got in replies {
-                let Effect { outcome, high_water } = effects[compared];
-                let expected = (Reply::told(outcome), high_water);
-                if got != expected {
-                    return Ok(Some((compared, format!("expected reply and mark {expected:X?}, got {got:X?}"))));
+            for reply in replies {
+                if reply != Reply::told(outcomes[compared]) {
+                    return Ok(Some((compared, reply)));
                 }
                 compared += 1;
             }

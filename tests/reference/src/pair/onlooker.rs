@@ -1,7 +1,6 @@
 //! What can be told of a pair from its pins and its flags, with no eye on the counts inside.
 
 use super::{composite, levels, Pair};
-use crate::gauge::Gauge;
 use crate::model::Mode;
 use crate::part::Part;
 use crate::pins::Pins;
@@ -33,7 +32,6 @@ pub struct Onlooker {
 pub struct Watched {
     pub pair: Pair,
     pub onlooker: Onlooker,
-    gauges: [Gauge; 2],
     /// The last Master Reset changed the mode.
     pub mode_changed: bool,
     /// One to the other mode was refused since.
@@ -94,7 +92,7 @@ impl Onlooker {
 impl Watched {
     pub fn power_up(part: Part) -> Watched {
         let (pair, onlooker) = (Pair::power_up(part), Onlooker::power_up());
-        Watched { pair, onlooker, gauges: [Gauge::power_up(); 2], mode_changed: false, mode_kept: false }
+        Watched { pair, onlooker, mode_changed: false, mode_kept: false }
     }
 
     pub fn sample(&mut self, records: [u32; 2]) -> Result<[u32; 2], u32> {
@@ -103,7 +101,6 @@ impl Watched {
         let outcome = self.pair.sample(records);
         if let Ok(answers) = outcome {
             self.onlooker.see(pins, self.pair.mode(), answers);
-            self.gauge(pins);
         }
         match outcome {
             _ if pins.mrs => (),
@@ -111,13 +108,5 @@ impl Watched {
             Err(_) => self.mode_kept |= other_mode,
         }
         outcome
-    }
-
-    /// A sample that was taken; the pins are those of either record.
-    fn gauge(&mut self, pins: Pins) {
-        for ((gauge, half), shown) in self.gauges.iter_mut().zip(&self.pair.halves).zip(self.onlooker.shown) {
-            gauge.see(pins, shown.write, shown.read);
-            assert_eq!(gauge.highest, half.high_water, "a half's mark is not what the pins and flags tell");
-        }
     }
 }

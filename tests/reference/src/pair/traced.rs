@@ -3,7 +3,6 @@
 use super::composite;
 use super::onlooker::Watched;
 use crate::corners::{Corner, Corners};
-use crate::model::Model;
 use crate::part::Part;
 use crate::pins::Pins;
 use crate::program::{Ends, Traced};
@@ -15,7 +14,6 @@ impl Traced for Watched {
         unknown_part: Corner::PairUnknownPart,
         no_samples: Corner::PairNoSamples,
         lenient: Corner::PairLenientRun,
-        high: Corner::PairHighRun,
         whole: Corner::PairStrictWhole,
         stops: &[
             (4, Corner::PairStopFour),
@@ -62,9 +60,5 @@ impl Traced for Watched {
                 Err(number)
             }
         }
-    }
-
-    fn parts(&self) -> &[Model] {
-        &self.pair.halves
     }
 }

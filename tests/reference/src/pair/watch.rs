@@ -48,9 +48,6 @@ impl Corners {
         note(Corner::PairAcceptedRight, right.accepted > left.accepted);
         note(Corner::PairTakenLeft, left.taken > right.taken);
         note(Corner::PairTakenRight, right.taken > left.taken);
-        let [left, right] = after.pair.halves.each_ref().map(|half| half.high_water);
-        note(Corner::PairHighWaterLeft, left > right);
-        note(Corner::PairHighWaterRight, right > left);
         let ([left, right], rises) = (pins, before.rises(pins[0]));
         let accepted = before.asked(left).write && before.shown.iter().all(|shown| shown.write);
         note(Corner::PairDataApart, accepted && left.data != right.data);

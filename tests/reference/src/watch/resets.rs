@@ -12,9 +12,6 @@ impl Corners {
         self.note(after, Corner::ResetBoth, !pins.mrs && !pins.prs);
         self.note(after, Corner::ResetPartial, partial && before.held() > 0);
         self.note(after, Corner::ResetMaster, !partial && before.held() > 0);
-        self.note(after, Corner::HighWaterPartialReset, partial && before.high_water > 0);
-        self.note(after, Corner::HighWaterPartialResetEmpty, partial && before.high_water > 0 && before.held() == 0);
-        self.note(after, Corner::HighWaterMasterReset, !partial && before.high_water > 0);
         self.note(after, Corner::ResetOtherMode, before.started() && before.mode != after.mode);
         self.note(after, Corner::ResetClock, before.write_clock_rises(pins) || before.read_clock_rises(pins));
         self.note(after, Corner::ResetInSetup, before.rises_since_retransmit().is_some_and(|since| since < 2));

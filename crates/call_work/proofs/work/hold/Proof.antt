@@ -13,7 +13,7 @@ returns c =
     let decoded = read.before.before in
     let known = decoded.before.before in
     let start = known.before in (
-      remembered_held start.args.part start.args.word start.args.state.now start.requires.0 (λ i. (known.slice-known.given i).fits) start.requires.1.0 start.requires.1.1.0 decoded.decode.ensures read.read-state.ensures
+      remembered_held start.args.word start.args.state.now start.requires.0 (λ i. (known.slice-known.given i).fits) start.requires.1.0 decoded.decode.ensures read.read-state.ensures
           moved.enables-after.ensures put.put-remembered.ensures,
       answer_given start.args.part start.args.word start.args.state.now start.args.answer.now decoded.decode.ensures read.read-state.ensures
           worded.answer.ensures answered.put-answer.ensures,

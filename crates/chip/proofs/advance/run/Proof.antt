@@ -1,7 +1,5 @@
 use Rattle.chip.specs.Advance.{running}
 use Rattle.chip.specs.Widths.{apart}
-use Rattle.sides.specs.Read.{read_after}
-use Rattle.sides.specs.Write.{write_after}
 use borrow.Author.Rules.{rules}
 use Rattle.chip.proofs.advance.run.Statement.{statement}
 use Rattle.chip.proofs.advance.run.Tie as tie
@@ -10,8 +8,8 @@ load-requires : tie.Need-load-requires
 load-requires c κs = let start = c.before.before.before in (apart start.args.part start.args.s start.requires).offsets
 
 returns : tie.Need-returns
-unfolding running write_after read_after
-returns c = simp (c.raise.ensures, c.before.words-ahead.ensures, c.before.before.enables-after.ensures, c.before.before.before.read-after.ensures, c.before.before.before.before.write-after.ensures, c.before.before.before.before.before.read-offset.ensures, c.before.before.before.before.before.before.load.ensures, c.before.before.before.before.before.before.before.read-rises.ensures, c.before.before.before.before.before.before.before.before.write-rises.ensures)
+unfolding running
+returns c = simp (c.enables-after.ensures, c.before.read-after.ensures, c.before.before.write-after.ensures, c.before.before.before.read-offset.ensures, c.before.before.before.before.load.ensures, c.before.before.before.before.before.read-rises.ensures, c.before.before.before.before.before.before.write-rises.ensures)
 
 pub run_spec : {M : Type 1} → statement M
 run_spec =
@@ -20,8 +18,6 @@ run_spec =
     (λ c κs. search rules)
     (λ c κs. search rules)
     load-requires
-    (λ c κs. search rules)
-    (λ c κs. search rules)
     (λ c κs. search rules)
     (λ c κs. search rules)
     (λ c κs. search rules)

@@ -4,7 +4,7 @@ use Rattle.text.specs.Digits.{put_hex}
 use Rattle.lines.proofs.records.put_answer.Statement.{statement}
 use Rattle.lines.proofs.records.put_answer.Tie as tie
 
-in_turn : (room answers : List ℕ) (at from : ℕ) {r₁ r₂ r₃ r₄ : List ℕ} {b₁ b₂ b₃ : ℕ}
+in-turn : (room answers : List ℕ) (at from : ℕ) {r₁ r₂ r₃ r₄ : List ℕ} {b₁ b₂ b₃ : ℕ}
     → r₁ ≡ set room at 32
     → b₁ ≡ get_or answers from 0
     → r₂ ≡ put_hex r₁ (at + 1) b₁
@@ -14,7 +14,7 @@ in_turn : (room answers : List ℕ) (at from : ℕ) {r₁ r₂ r₃ r₄ : List 
     → r₄ ≡ put_hex r₃ (at + 5) b₃
     → r₄ ≡ put_answer room at answers from
 unfolding put_answer
-in_turn room answers at from e₁ f₁ e₂ f₂ e₃ f₃ e₄ = cc
+in-turn room answers at from e₁ f₁ e₂ f₂ e₃ f₃ e₄ = cc
 
 returns : tie.Need-returns
 returns c =
@@ -23,7 +23,7 @@ returns c =
     let first = second.before.before.before.before.before in
     let blank = first.before.before.before.before.before in
     let a = blank.before.before.before.before.args in
-    in_turn
+    in-turn
     a.room.now
     a.answers.now
     a.at

@@ -3,7 +3,7 @@ use Rattle.lines.specs.Records.{put_flags}
 use Rattle.lines.proofs.records.put_flags.Statement.{statement}
 use Rattle.lines.proofs.records.put_flags.Tie as tie
 
-in_turn : (room flags : List ℕ) (at from : ℕ) {r₁ r₂ r₃ : List ℕ} {b₁ b₂ : ℕ}
+in-turn : (room flags : List ℕ) (at from : ℕ) {r₁ r₂ r₃ : List ℕ} {b₁ b₂ : ℕ}
     → r₁ ≡ set room at 32
     → b₁ ≡ get_or flags from 0
     → r₂ ≡ set r₁ (at + 1) b₁
@@ -11,7 +11,7 @@ in_turn : (room flags : List ℕ) (at from : ℕ) {r₁ r₂ r₃ : List ℕ} {b
     → r₃ ≡ set r₂ (at + 2) b₂
     → r₃ ≡ put_flags room at flags from
 unfolding put_flags
-in_turn room flags at from e₁ f₁ e₂ f₂ e₃ = cc
+in-turn room flags at from e₁ f₁ e₂ f₂ e₃ = cc
 
 returns : tie.Need-returns
 returns c =
@@ -19,7 +19,7 @@ returns c =
     let first = second.before.before.before.before.before in
     let blank = first.before.before.before.before.before in
     let a = blank.before.before.before.before.args in
-    in_turn
+    in-turn
     a.room.now
     a.flags.now
     a.at

@@ -14,17 +14,17 @@ decreases-loop lenient part left₀ right₀ room₀ progress₀ more₀ left ri
 
 same_length : tie.Need-same-length invariant-loop decreases-loop
 same_length c =
-    let work = c.before.before.before.before.before.before.before in
+    let work = c.before.before.before.before.before.before.before.before in
     omega (arith, work.work-chunk.auto.1.1.1.0, work.before.before.before.before.before.loop.invariant.0)
 
 same-length-2 : tie.Need-same-length-2 invariant-loop decreases-loop
 same-length-2 c =
-    let work = c.before.before.before.before.before.before.before in
+    let work = c.before.before.before.before.before.before.before.before in
     omega (arith, work.work-chunk.auto.1.1.1.1.0, work.before.before.before.before.before.loop.invariant.1)
 
 same-length-3 : tie.Need-same-length-3 invariant-loop decreases-loop
 same-length-3 c =
-    let work = c.before.before.before.before.before.before.before in
+    let work = c.before.before.before.before.before.before.before.before in
     omega (arith, work.work-chunk.auto.1.1.1.1.1.0, work.before.before.before.before.before.loop.invariant.2)
 
 loop-again : tie.Need-loop-preserved invariant-loop decreases-loop
