@@ -9,7 +9,7 @@ use counts::part::{Lookup, Part};
 use spelling::state::STATE_BYTES;
 
 // A record of four bytes for a part and a state that have passed their tests, or a refusal's number.
-#[derive(Drop)]
+#[derive(Clone, Copy)]
 pub enum Verdict {
     Work(Part, u32),
     Refuse(u32),

@@ -1,5 +1,7 @@
 // Parts in a row (paper 02, order 4): the chain's list of part states, lent by the caller, one entry a part, and their memories as one slice of words,
 // each part's after the other. These four functions touch the list; all else is done on a row of states by value.
+#![tactic(auto)]
+
 ghost use Rattle.chain.specs.Chain.{Runs, Samples};
 ghost use Rattle.rows.specs.Row.{put_back, row_of};
 ghost use Rattle.std.specs.Prelude.{◌≡◌};

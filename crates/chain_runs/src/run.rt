@@ -7,7 +7,7 @@ use chain_work::work::Ran;
 use rows::row::Row;
 
 // Where a run ended, without the states.
-#[derive(Drop)]
+#[derive(Clone, Copy)]
 pub struct Report {
     pub accepted: usize,
     pub index: usize,

@@ -6,7 +6,7 @@ use super::testing::Verdict;
 use fifo::sample::Outcome;
 use rows::row::Row;
 
-#[derive(Drop)]
+#[derive(Clone, Copy)]
 pub struct Worked {
     pub outcome: Outcome,
     pub row: Row,

@@ -6,7 +6,7 @@ ghost use Rattle.counts.specs.Part.{depth_of};
 use counts::part::{Lookup, Part};
 use rows::row::Row;
 
-#[derive(Drop)]
+#[derive(Clone, Copy)]
 pub enum Verdict {
     Passed(Part),
     Refused(u8),

@@ -4,7 +4,7 @@ ghost use Rattle.chain_work.specs.Records.{Reads, more_at};
 
 // What stands at an index of a trace: a whole record, which is a part's record and three bytes more, the bytes left over after the last one, or
 // nothing more.
-#[derive(Drop)]
+#[derive(Clone, Copy)]
 pub enum Record {
     Whole(u32, u32),
     Leftover,

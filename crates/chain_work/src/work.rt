@@ -17,7 +17,7 @@ use pins::record::Pins;
 use rows::row::Row;
 
 // Where a run ended: the index of the record that it refused, or of the end of the trace, and the number, 0 for none.
-#[derive(Drop)]
+#[derive(Clone, Copy)]
 pub struct Ran {
     pub row: Row,
     pub accepted: usize,

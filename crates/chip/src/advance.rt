@@ -9,13 +9,13 @@ use counts::part::Part;
 use pins::record::Pins;
 
 // What the memory is to do: keep all its words, or take a word at a place.
-#[derive(Drop)]
+#[derive(Clone, Copy)]
 pub enum Store {
     Keep,
     Put(u16, u32),
 }
 
-#[derive(Drop)]
+#[derive(Clone, Copy)]
 pub struct Advanced {
     pub state: State,
     pub answer: u32,

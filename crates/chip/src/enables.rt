@@ -6,7 +6,7 @@ use super::state::State;
 use pins::record::Pins;
 
 // The levels in the last sample taken, and whether REN and WEN were HIGH at RT's last fall and in the sample taken before it.
-#[derive(Drop)]
+#[derive(Clone, Copy)]
 pub struct Enables {
     pub rt: bool,
     pub ren: bool,

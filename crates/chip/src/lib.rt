@@ -1,4 +1,6 @@
 // The chip by value: its state and that state's test, the resets, and what an accepted sample gives.
+#![tactic(auto)]
+
 pub mod advance;
 pub mod answer;
 pub mod enables;

@@ -12,7 +12,7 @@ use sides::read::{Mode, ReadSide};
 use sides::write::WriteSide;
 
 // `started` says that there has been a Master Reset.
-#[derive(Drop)]
+#[derive(Clone, Copy)]
 pub struct State {
     pub started: bool,
     pub write: WriteSide,

@@ -2,13 +2,13 @@
 ghost use Rattle.counts.specs.Part.{above_bits, depth_of, low_bits, offset_bits, part_of, serial_bits, within};
 ghost use Rattle.std.specs.Prelude.{◌≡◌};
 
-#[derive(Drop)]
+#[derive(Clone, Copy)]
 pub enum Part {
     Idt72V255LA,
     Idt72V265LA,
 }
 
-#[derive(Drop)]
+#[derive(Clone, Copy)]
 pub enum Lookup {
     Known(Part),
     Unknown,

@@ -6,11 +6,11 @@ ghost use Rattle.std.specs.Prelude.{◌≡◌, if◌then◌else◌};
 use super::part::Part;
 
 // Of words written to memory.
-#[derive(Drop)]
+#[derive(Clone, Copy)]
 pub struct WriteCount(pub u16);
 
 // Of words delivered from memory.
-#[derive(Drop)]
+#[derive(Clone, Copy)]
 pub struct ReadCount(pub u16);
 
 pub fn next_write(moves: bool, count: WriteCount) -> WriteCount

@@ -1,4 +1,6 @@
 // The model over a lent memory: one sample.
+#![tactic(auto)]
+
 pub mod memory;
 pub mod outcome;
 pub mod sample;

@@ -12,13 +12,13 @@ use counts::part::{Lookup, Part};
 use pins::record::Pins;
 
 // Taken with its packed answer, or refused with its number.
-#[derive(Drop)]
+#[derive(Clone, Copy)]
 pub enum Outcome {
     Taken(u32),
     Refused(u8),
 }
 
-#[derive(Drop)]
+#[derive(Clone, Copy)]
 pub struct Sampled {
     pub outcome: Outcome,
     pub state: State,

@@ -1,2 +1,4 @@
 // The model for C: one sample on numbers and byte buffers.
+#![tactic(auto)]
+
 pub mod call;

@@ -1,4 +1,6 @@
 // The paper's figures: the model driven sample by sample, a line for each. `stdout` has the lines that are expected.
+#![tactic(auto)]
+
 mod bench;
 mod limits;
 mod listing;

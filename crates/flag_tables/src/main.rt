@@ -1,5 +1,7 @@
 // Tables 1 and 2 of source document 000 as the model has them, for both parts and the offsets that a Master Reset gives. docs/FLAGS.md ends with these
 // lines.
+#![tactic(auto)]
+
 mod bounds;
 
 ghost use Rattle.views.specs.Tables.{beyond_memory, limits_of};

@@ -4,7 +4,7 @@ ghost use Rattle.halves.specs.State.{PoweredUp, Tested};
 use chip::state::State;
 use counts::part::Part;
 
-#[derive(Drop)]
+#[derive(Clone, Copy)]
 pub struct Halves {
     pub left: State,
     pub right: State,

@@ -10,7 +10,7 @@ use chip::state::State;
 use counts::part::Part;
 
 // A record for a part, and what the part makes of it: its number, 0 where it is not refused, and what it gives if it is taken.
-#[derive(Drop)]
+#[derive(Clone, Copy)]
 pub struct Trial {
     pub asked: u32,
     pub fetched: u32,
@@ -18,7 +18,7 @@ pub struct Trial {
     pub advanced: Advanced,
 }
 
-#[derive(Drop)]
+#[derive(Clone, Copy)]
 pub struct Trials {
     pub left: Trial,
     pub right: Trial,

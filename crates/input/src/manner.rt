@@ -1,7 +1,7 @@
 // What the user asks for by arguments.
 
 // How a refused record is met: as the end, or as one line among the others.
-#[derive(Drop)]
+#[derive(Clone, Copy)]
 pub enum Manner {
     Strict,
     Lenient,

@@ -5,7 +5,7 @@ ghost use Rattle.std.specs.Prelude.{◌≡◌};
 use sides::read::Mode;
 
 // `ff` is the level of the composite FF or IR, `ef` that of EF or OR.
-#[derive(Drop)]
+#[derive(Clone, Copy)]
 pub struct Composite {
     pub ff: bool,
     pub ef: bool,

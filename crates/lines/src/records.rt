@@ -10,7 +10,7 @@ use text::{bytes, digits};
 pub const LONGEST: usize = 50;
 
 // What a line shows of a record that was taken, after its index. An answer is three bytes, flags are two digits.
-#[derive(Drop)]
+#[derive(Clone, Copy)]
 pub enum Layout {
     Answer,
     FlagsAndTwoAnswers,

@@ -5,7 +5,7 @@ ghost use Rattle.links.specs.Record.{links_of, marks_of, plain};
 use pins::record::{Pins, Skew};
 
 // The record's pins, the level of the transfer clock, and the three bytes in which the marks stand.
-#[derive(Drop)]
+#[derive(Clone, Copy)]
 pub struct Links {
     pub pins: Pins,
     pub clock: bool,

@@ -7,13 +7,13 @@ use counts::part::Part;
 use pins::record::Pins;
 
 // What Q shows: the output register, or an offset as it stood when it was read.
-#[derive(Drop)]
+#[derive(Clone, Copy)]
 pub enum Shows {
     Register,
     Offset(u16),
 }
 
-#[derive(Drop)]
+#[derive(Clone, Copy)]
 pub struct Reading {
     pub next: Next,
     pub shows: Shows,

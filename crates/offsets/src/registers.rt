@@ -5,14 +5,14 @@ ghost use Rattle.std.specs.Prelude.{◌^◌, ltb, ◌≡◌};
 
 use counts::part::Part;
 
-#[derive(Drop)]
+#[derive(Clone, Copy)]
 pub enum Method {
     Parallel,
     Serial,
 }
 
 // Which register is next in a sequence.
-#[derive(Drop)]
+#[derive(Clone, Copy)]
 pub enum Next {
     N,
     M,
@@ -20,7 +20,7 @@ pub enum Next {
 
 // `next` is the register that a parallel load goes to. `serial` holds the bits loaded so far, the first in the lowest
 // place, and `count` how many they are. The widest field stands first: padding is copied with every sample.
-#[derive(Drop)]
+#[derive(Clone, Copy)]
 pub struct Offsets {
     pub serial: u32,
     pub n: u16,

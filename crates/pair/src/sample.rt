@@ -10,13 +10,13 @@ use counts::part::{Lookup, Part};
 use halves::state::Halves;
 
 // Taken with both packed answers, or refused with its number.
-#[derive(Drop)]
+#[derive(Clone, Copy)]
 pub enum Outcome {
     Taken(u32, u32),
     Refused(u8),
 }
 
-#[derive(Drop)]
+#[derive(Clone, Copy)]
 pub struct Sampled {
     pub outcome: Outcome,
     pub state: Halves,

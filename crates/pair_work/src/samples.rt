@@ -2,7 +2,7 @@
 ghost use Rattle.pair_work.specs.Samples.{Reads};
 
 // What stands at an index of a trace: a whole sample, the bytes left over after the last one, or nothing more.
-#[derive(Drop)]
+#[derive(Clone, Copy)]
 pub enum Sample {
     Whole(u32, u32),
     Leftover,

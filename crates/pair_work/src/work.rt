@@ -14,7 +14,7 @@ use halves::state::Halves;
 use pair::sample::Outcome;
 
 // Where a run ended: the index of the sample that it refused, or of the end of the trace, and the number, 0 for none.
-#[derive(Drop)]
+#[derive(Clone, Copy)]
 pub struct Ran {
     pub state: Halves,
     pub accepted: usize,

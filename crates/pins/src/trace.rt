@@ -4,7 +4,7 @@ ghost use Rattle.pins.specs.Trace.{Reads, joined, word_at};
 
 // What stands at an index of a trace: a whole record with the mark that its D was still moving, the bytes left over after the
 // last one, or nothing more.
-#[derive(Drop)]
+#[derive(Clone, Copy)]
 pub enum Record {
     Whole(u32, bool),
     Leftover,

@@ -1,10 +1,12 @@
 // A place in the caller's trace: its bytes stay where they are, and only the index moves.
+#![tactic(auto)]
+
 ghost use Rattle.pins.specs.Trace.{Reads};
 ghost use Rattle.reader.specs.Reader.{Finds, Moves, Opens};
 
 use pins::trace::Record;
 
-#[derive(Drop)]
+#[derive(Clone, Copy)]
 pub struct Reader<'a> {
     pub trace: &'a [u8],
     pub index: usize,

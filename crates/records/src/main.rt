@@ -1,5 +1,7 @@
 // What stands at each index of a trace: first where two bytes are left over after the last record, then where none are. A record
 // whose D was still moving is marked.
+#![tactic(auto)]
+
 use pins::trace::Record;
 
 fn print_found(found: Record) {

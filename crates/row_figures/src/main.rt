@@ -1,5 +1,7 @@
 // Parts in a row (paper 02, order 4): a row of two parts 255 that is handed in, and the number that one sample on it gets, a line for each. What a
 // trace from power-up cannot come to is here too: 2, 3 and 10.
+#![tactic(auto)]
+
 use chip::state::State;
 use rows::row::Row;
 

@@ -1,2 +1,4 @@
 // A run under a name for programs in C, which time it.
+#![tactic(auto)]
+
 pub mod timed;

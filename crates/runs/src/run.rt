@@ -13,7 +13,7 @@ use fifo::sample::Outcome;
 use pins::trace::Record;
 
 // Where a run ended: the index of the record that it refused, or of the end of the trace, and the number, 0 for none.
-#[derive(Drop)]
+#[derive(Clone, Copy)]
 pub struct Ran {
     pub state: State,
     pub accepted: usize,

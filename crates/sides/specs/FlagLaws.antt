@@ -2,7 +2,7 @@
 -- whatever LD and the mode are, and PAF and PAE by the offset handed in; without such a rise PAF and PAE keep their level. Where
 -- their count has a row in Table 1 or 2 they show the level in it.
 use Rattle.std.specs.Prelude.{ℕ, ◌-◌, ◌≤◌, Bool, true, false, not, ◌&&◌, ◌↔◌, ◌≡◌, refl}
-use Rattle.std.proofs.Math.Logic.{Iff·trans}
+use Rattle.std.proofs.Math.Logic.Iff.{trans}
 use Rattle.std.proofs.Common.{ap, sym}
 use borrow.Author.Tests.{eq-eqb, eqb-true, not-false}
 use Rattle.counts.specs.Round.{ahead}
@@ -20,7 +20,7 @@ use Rattle.views.specs.Tables.{beyond_memory, has_row, pae_level, paf_level, row
 
 -- a level that is LOW where a test holds
 low_by : {Holds : Type 0} (test : Bool) → (test ≡ true) ↔ Holds → (not test ≡ false) ↔ Holds
-low_by test h = Iff·trans (not-false test, ap not) h
+low_by test h = trans (not-false test, ap not) h
 
 -- the output word is counted in FWFT alone
 pub table_told : (untaken : Bool) → (beyond_memory (table_of Standard) ≡ 0) × (beyond_memory (table_of (Fwft untaken)) ≡ 1)

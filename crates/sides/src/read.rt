@@ -14,14 +14,14 @@ use views::tables::Table;
 
 // Timing modes. In FWFT the output register may hold a word that no read has taken yet; in Standard a word is taken as
 // it is delivered.
-#[derive(Drop)]
+#[derive(Clone, Copy)]
 pub enum Mode {
     Standard,
     Fwft { untaken: bool },
 }
 
 // `level` is that of RCLK, `pae` that of PAE; `output` is the output register.
-#[derive(Drop)]
+#[derive(Clone, Copy)]
 pub struct ReadSide {
     pub level: bool,
     pub count: ReadCount,

@@ -14,7 +14,7 @@ use views::stages::ReadRise;
 
 // `level` is that of WCLK, `paf` that of PAF; `wrapped` says that a word since the last reset took the count round its width.
 // No two counts adjoin: a reset's zeros would make one wide number of them, to be taken apart in every sample.
-#[derive(Drop)]
+#[derive(Clone, Copy)]
 pub struct WriteSide {
     pub level: bool,
     pub count: WriteCount,

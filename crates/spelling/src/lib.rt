@@ -1,2 +1,4 @@
 // A state in lent bytes.
+#![tactic(auto)]
+
 pub mod state;

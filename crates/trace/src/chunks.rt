@@ -10,7 +10,7 @@ use runs::run::Ran;
 const CHUNK: usize = RECORDS * 4;
 
 // What is carried from chunk to chunk.
-#[derive(Drop)]
+#[derive(Clone, Copy)]
 struct Progress {
     state: State,
     tally: Tally,

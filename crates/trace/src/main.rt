@@ -1,4 +1,6 @@
 // The trace program: a part number and records on standard input, a line for each record on standard output.
+#![tactic(auto)]
+
 mod chunks;
 
 use input::manner::Manner;

@@ -10,7 +10,7 @@ use rows::row::Row;
 const CHUNK: usize = RECORDS * 7;
 
 // What is carried from chunk to chunk.
-#[derive(Drop)]
+#[derive(Clone, Copy)]
 struct Progress {
     row: Row,
     tally: Tally,

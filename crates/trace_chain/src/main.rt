@@ -1,5 +1,7 @@
 // The trace program for parts in a row: a part number, the number of parts and chain records on standard input, a line for each
 // record on standard output.
+#![tactic(auto)]
+
 mod chunks;
 
 use input::manner::Manner;

@@ -11,7 +11,7 @@ use pair_work::work::Ran;
 const CHUNK: usize = RECORDS * 8;
 
 // What is carried from chunk to chunk.
-#[derive(Drop)]
+#[derive(Clone, Copy)]
 struct Progress {
     state: Halves,
     tally: Tally,

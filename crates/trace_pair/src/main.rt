@@ -1,5 +1,7 @@
 // The trace program for two parts side by side: a part number and samples of two records, left and right, on standard input, a
 // line for each sample on standard output.
+#![tactic(auto)]
+
 mod chunks;
 mod composites;
 

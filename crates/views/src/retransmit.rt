@@ -3,7 +3,7 @@ ghost use Rattle.views.specs.Retransmit.{is_over, just_begun, is_seen, setup_aft
 ghost use Rattle.std.specs.Prelude.{◌≡◌};
 
 // How many more RCLK rises the setup lasts.
-#[derive(Drop)]
+#[derive(Clone, Copy)]
 pub enum Setup {
     Over,
     OneMore,
@@ -11,7 +11,7 @@ pub enum Setup {
 }
 
 // No count from after the last retransmit taken yet by a WCLK rise, one taken, or the retransmit seen.
-#[derive(Drop)]
+#[derive(Clone, Copy)]
 pub enum View {
     Unseen,
     Taken,

@@ -6,14 +6,14 @@ use counts::round::{ReadCount, WriteCount};
 
 // What the write side remembers of RCLK, from its own rise or a reset on: whether RCLK rose, and the read count
 // that its latest rise found.
-#[derive(Drop)]
+#[derive(Clone, Copy)]
 pub enum ReadRise {
     NoneSince,
     Before(ReadCount),
 }
 
 // The same of WCLK, on the read side.
-#[derive(Drop)]
+#[derive(Clone, Copy)]
 pub enum WriteRise {
     NoneSince,
     Before(WriteCount),

@@ -3,14 +3,14 @@ ghost use Rattle.std.specs.Prelude.{◌+◌, ◌-◌, ◌<◌, ◌≤◌, ◌≡
 ghost use Rattle.views.specs.Tables.{beyond_memory, has_row, hf_level, limits_of, pae_level, paf_level, row_of, stands_at};
 
 // Table 1 is that of Standard mode, Table 2 that of FWFT.
-#[derive(Drop)]
+#[derive(Clone, Copy)]
 pub enum Table {
     One,
     Two,
 }
 
 // In the sheet's order.
-#[derive(Drop)]
+#[derive(Clone, Copy)]
 pub enum Row {
     Empty,
     AlmostEmpty,
@@ -21,7 +21,7 @@ pub enum Row {
 }
 
 // The last count of the rows AlmostEmpty and ToHalf, and the first of the rows AlmostFull and Full.
-#[derive(Drop)]
+#[derive(Clone, Copy)]
 pub struct Limits {
     pub few: u16,
     pub half: u16,
