@@ -14,6 +14,7 @@ pub struct Lines {
     pub q: u32,
 }
 
+#[tactic(auto, unfolding(crate::specs::Answer::packed))]
 pub fn pack(lines: Lines) -> u32
     ensures { result ≡ packed lines }
 {

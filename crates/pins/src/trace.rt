@@ -11,6 +11,7 @@ pub enum Record {
     End,
 }
 
+#[tactic(auto, unfolding(crate::specs::Trace::record_at))]
 pub fn record_at(trace: &[u8], index: usize) -> Record
     ensures { Reads trace.now index result }
 {
@@ -25,6 +26,7 @@ pub fn record_at(trace: &[u8], index: usize) -> Record
 }
 
 // Four bytes from a place on.
+#[tactic(auto, unfolding(crate::specs::Trace::word_at))]
 pub fn word_at(trace: &[u8], at: usize) -> u32
     requires { at + 3 < length trace.now }
     ensures { result ≡ word_at trace.now at }

@@ -13,6 +13,7 @@ pub fn is_full_at(part: Part, words: u16) -> bool
     words == counts::part::depth(part)
 }
 
+#[tactic(auto, using(crate::specs::TableLaws::paf_by_table_lem))]
 pub fn is_paf_low(table: Table, part: Part, n: u16, m: u16, words: u16) -> bool
     ensures { result ≡ paf_low (depth_of part) m words }
 {
@@ -20,6 +21,7 @@ pub fn is_paf_low(table: Table, part: Part, n: u16, m: u16, words: u16) -> bool
     paf_by_table(beyond, counts::part::depth(part), n, m, words)
 }
 
+#[tactic(auto, using(crate::specs::TableLaws::hf_by_table_lem))]
 pub fn is_hf_low(table: Table, part: Part, n: u16, m: u16, words: u16) -> bool
     ensures { result ≡ hf_low (depth_of part) words }
 {
@@ -27,6 +29,7 @@ pub fn is_hf_low(table: Table, part: Part, n: u16, m: u16, words: u16) -> bool
     hf_by_table(beyond, counts::part::depth(part), n, m, words)
 }
 
+#[tactic(auto, using(crate::specs::TableLaws::pae_by_table_lem))]
 pub fn is_pae_low(table: Table, part: Part, n: u16, m: u16, words: u16) -> bool
     ensures { result ≡ pae_low n words }
 {
@@ -34,6 +37,7 @@ pub fn is_pae_low(table: Table, part: Part, n: u16, m: u16, words: u16) -> bool
     pae_by_table(beyond, counts::part::depth(part), n, m, words)
 }
 
+#[tactic(auto, unfolding(crate::specs::Tables::paf_by_table))]
 fn paf_by_table(beyond: u16, depth: u16, n: u16, m: u16, words: u16) -> bool
     requires { depth + beyond < 65536 }
     ensures { result ≡ paf_by_table beyond depth n m words }
@@ -48,6 +52,7 @@ fn paf_by_table(beyond: u16, depth: u16, n: u16, m: u16, words: u16) -> bool
     }
 }
 
+#[tactic(auto, unfolding(crate::specs::Tables::hf_by_table))]
 fn hf_by_table(beyond: u16, depth: u16, n: u16, m: u16, words: u16) -> bool
     requires { depth + beyond < 65536 }
     ensures { result ≡ hf_by_table beyond depth n m words }
@@ -62,6 +67,7 @@ fn hf_by_table(beyond: u16, depth: u16, n: u16, m: u16, words: u16) -> bool
     }
 }
 
+#[tactic(auto, unfolding(crate::specs::Tables::pae_by_table))]
 fn pae_by_table(beyond: u16, depth: u16, n: u16, m: u16, words: u16) -> bool
     requires { depth + beyond < 65536 }
     ensures { result ≡ pae_by_table beyond depth n m words }

@@ -64,6 +64,7 @@ pub fn stands_at(beyond: u16, words: u16) -> u16
     words + beyond
 }
 
+#[tactic(auto, unfolding(crate::specs::Tables::row_of))]
 pub fn row_of(limits: Limits, count: u16) -> Row
     ensures { result ≡ row_of limits count }
 {
