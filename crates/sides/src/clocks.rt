@@ -6,12 +6,14 @@ use super::read::ReadSide;
 use super::write::WriteSide;
 use pins::record::Pins;
 
+#[tactic(auto, unfolding(crate::specs::Clocks::write_rises))]
 pub fn write_rises(p: Pins, w: WriteSide) -> bool
     ensures { result ≡ write_rises p w }
 {
     is_rise(w.level, p.wclk)
 }
 
+#[tactic(auto, unfolding(crate::specs::Clocks::read_rises))]
 pub fn read_rises(p: Pins, r: ReadSide) -> bool
     ensures { result ≡ read_rises p r }
 {

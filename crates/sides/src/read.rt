@@ -34,12 +34,14 @@ pub struct ReadSide {
     pub output: u32,
 }
 
+#[tactic(auto, unfolding(crate::specs::Read::retransmits))]
 pub fn is_retransmit(p: Pins, r: ReadSide) -> bool
     ensures { result ≡ retransmits p r }
 {
     super::clocks::read_rises(p, r) & !p.rt
 }
 
+#[tactic(auto, unfolding(crate::specs::Read::ready))]
 pub fn is_ready(r: ReadSide) -> bool
     ensures { result ≡ ready r }
 {
@@ -47,12 +49,14 @@ pub fn is_ready(r: ReadSide) -> bool
     ready_by(mode, sees_word(r))
 }
 
+#[tactic(auto, unfolding(crate::specs::Read::reads))]
 fn is_read(p: Pins, r: ReadSide) -> bool
     ensures { result ≡ reads p r }
 {
     super::clocks::read_rises(p, r) & p.ld & !p.ren & p.rt & is_ready(r)
 }
 
+#[tactic(auto, unfolding(crate::specs::Read::delivers))]
 fn is_delivered(p: Pins, r: ReadSide) -> bool
     ensures { result ≡ delivers p r }
 {
@@ -89,6 +93,7 @@ pub fn read_after(
     }
 }
 
+#[tactic(auto, unfolding(crate::specs::Read::read_after, crate::specs::Read::read_count_after, crate::specs::Read::second_after_read))]
 fn rise(part: Part, n: u16, m: u16, p: Pins, fetched: u32, w: WriteSide, r: ReadSide) -> ReadSide
     requires { read_rises p r ≡ true }
     ensures { result ≡ read_after n p fetched w r }
@@ -155,6 +160,7 @@ pub fn table_of(mode: Mode) -> Table
     }
 }
 
+#[tactic(auto, unfolding(crate::specs::Read::sees_word))]
 fn sees_word(r: ReadSide) -> bool
     ensures { result ≡ sees_word r }
 {

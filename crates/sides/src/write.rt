@@ -26,12 +26,14 @@ pub struct WriteSide {
     pub latest: ReadRise,
 }
 
+#[tactic(auto, unfolding(crate::specs::Write::full))]
 pub fn is_full(part: Part, w: WriteSide) -> bool
     ensures { result ≡ full (depth_of part) w }
 {
     views::flags::is_full_at(part, counts::round::words_ahead(w.count, w.second))
 }
 
+#[tactic(auto, unfolding(crate::specs::Write::accepts))]
 pub fn accepts_word(part: Part, p: Pins, w: WriteSide) -> bool
     ensures { result ≡ accepts (depth_of part) p w }
 {
@@ -50,6 +52,7 @@ pub fn accepted_more(limit: u16, w: WriteSide) -> bool
     w.wrapped | (limit < w.count.0)
 }
 
+#[tactic(auto, unfolding(crate::specs::Write::takes_after))]
 fn takes_after(p: Pins, r: ReadSide, w: WriteSide) -> bool
     ensures { result ≡ takes_after p r w }
 {
@@ -79,6 +82,7 @@ pub fn write_after(part: Part, n: u16, m: u16, p: Pins, r: ReadSide, w: WriteSid
     }
 }
 
+#[tactic(auto, unfolding(crate::specs::Write::write_after, crate::specs::Write::second_after_write, crate::specs::Write::write_count_after))]
 fn rise(part: Part, n: u16, m: u16, p: Pins, r: ReadSide, w: WriteSide) -> WriteSide
     requires { write_rises p w ≡ true }
     ensures { result ≡ write_after (depth_of part) m p r w }
