@@ -7,6 +7,7 @@ use super::registers::{Method, Next, Offsets};
 use counts::part::Part;
 use pins::record::Pins;
 
+#[tactic(auto, unfolding(crate::specs::Loading::offsets_after))]
 pub fn load(part: Part, p: Pins, rises: bool, o: Offsets) -> Offsets
     requires { fit part o ≡ true }
     ensures { result ≡ offsets_after part p rises o }
@@ -19,6 +20,7 @@ pub fn load(part: Part, p: Pins, rises: bool, o: Offsets) -> Offsets
     }
 }
 
+#[tactic(auto, unfolding(crate::specs::Loading::loaded_by))]
 fn load_by(method: Method, part: Part, p: Pins, o: Offsets) -> Offsets
     requires { fit part o ≡ true }
     ensures { result ≡ loaded_by method part p o }
@@ -37,6 +39,7 @@ fn load_by(method: Method, part: Part, p: Pins, o: Offsets) -> Offsets
     }
 }
 
+#[tactic(auto, unfolding(crate::specs::Loading::load_parallel))]
 fn load_parallel(part: Part, d: u32, o: Offsets) -> Offsets
     ensures { result ≡ load_parallel part d o }
 {
@@ -57,6 +60,7 @@ fn load_parallel(part: Part, d: u32, o: Offsets) -> Offsets
     }
 }
 
+#[tactic(auto, using(crate::specs::Fits::few_bits, crate::specs::Fits::fits), unfolding(crate::specs::Loading::load_serial, crate::specs::Loading::with_bit))]
 fn load_serial(part: Part, bit: bool, o: Offsets) -> Offsets
     requires { fit part o ≡ true }
     ensures { result ≡ load_serial part bit o }
@@ -89,6 +93,7 @@ fn load_serial(part: Part, bit: bool, o: Offsets) -> Offsets
     }
 }
 
+#[tactic(auto, using(crate::specs::Fits::few_bits, crate::specs::Fits::fits, crate::specs::Fits::serial_small))]
 fn push(bit: bool, part: Part, o: Offsets) -> u32
     requires { fit part o ≡ true }
     ensures { result ≡ pushed bit o }

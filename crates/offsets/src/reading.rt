@@ -28,6 +28,7 @@ pub fn end_showing(next: Next) -> Reading
     }
 }
 
+#[tactic(auto, unfolding(crate::specs::Reading::reading_after))]
 pub fn read_offset(p: Pins, rises: bool, o: Offsets, reading: Reading) -> Reading
     ensures { result ≡ reading_after p rises o reading }
 {
@@ -63,6 +64,7 @@ pub fn shown_fits(part: Part, shows: Shows) -> bool
     }
 }
 
+#[tactic(auto, unfolding(crate::specs::Reading::read_next))]
 fn show_next(next: Next, o: Offsets) -> Reading
     ensures { result ≡ read_next next o }
 {

@@ -30,6 +30,7 @@ pub struct Offsets {
     pub count: u8,
 }
 
+#[tactic(auto, unfolding(crate::specs::Registers::defaults))]
 pub fn reset_offsets(ld: bool) -> Offsets
     ensures { result ≡ defaults ld }
 {
@@ -45,6 +46,7 @@ pub fn reset_offsets(ld: bool) -> Offsets
     }
 }
 
+#[tactic(auto, unfolding(crate::specs::Registers::fit))]
 pub fn offsets_fit(part: Part, o: Offsets) -> bool
     ensures { result ≡ fit part o }
 {
