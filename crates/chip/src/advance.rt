@@ -23,6 +23,7 @@ pub struct Advanced {
 }
 
 // `fetched` is the word of the memory at the place of the read count.
+#[tactic(auto, unfolding(crate::specs::Advance::advanced))]
 pub fn advance(part: Part, p: Pins, fetched: u32, s: State) -> Advanced
     requires { widths part s ≡ true }
     ensures { Advances part p fetched s result }
@@ -37,6 +38,7 @@ pub fn advance(part: Part, p: Pins, fetched: u32, s: State) -> Advanced
     }
 }
 
+#[tactic(auto, unfolding(crate::specs::Advance::state_after))]
 fn state_after(part: Part, p: Pins, fetched: u32, s: State) -> State
     requires { widths part s ≡ true }
     ensures { result ≡ state_after part p fetched s }
@@ -52,6 +54,7 @@ fn state_after(part: Part, p: Pins, fetched: u32, s: State) -> State
     }
 }
 
+#[tactic(auto, unfolding(crate::specs::Advance::running))]
 fn run(part: Part, p: Pins, fetched: u32, s: State) -> State
     requires { widths part s ≡ true }
     ensures { result ≡ running part p fetched s }
@@ -79,6 +82,7 @@ fn run(part: Part, p: Pins, fetched: u32, s: State) -> State
     }
 }
 
+#[tactic(auto, unfolding(crate::specs::Advance::store_of))]
 fn store_of(part: Part, p: Pins, s: State) -> Store
     ensures { result ≡ store_of part p s }
 {

@@ -8,12 +8,14 @@ use pins::answer::Lines;
 use pins::record::Pins;
 use sides::read::Mode;
 
+#[tactic(auto, unfolding(crate::specs::Answer::answer_of))]
 pub fn answer(part: Part, p: Pins, s: State) -> u32
     ensures { result ≡ answer_of part p s }
 {
     pins::answer::pack(lines(part, p.oe, s))
 }
 
+#[tactic(auto, unfolding(crate::specs::Answer::lines_of))]
 pub fn lines(part: Part, oe: bool, s: State) -> Lines
     ensures { result ≡ lines_of part oe s }
 {

@@ -16,6 +16,7 @@ pub struct Enables {
 
 // The fall that an RT LOW in this sample belongs to: this sample's, or an earlier one's. RT is asked first and then its last level: the
 // compiler makes less of it than of one test for both.
+#[tactic(auto, unfolding(crate::specs::Enables::last_fall_clean))]
 pub fn is_last_fall_clean(p: Pins, s: State) -> bool
     ensures { result ≡ last_fall_clean p s.enables }
 {
@@ -28,6 +29,7 @@ pub fn is_last_fall_clean(p: Pins, s: State) -> bool
     }
 }
 
+#[tactic(auto, unfolding(crate::specs::Enables::enables_after))]
 pub fn enables_after(p: Pins, s: State) -> Enables
     ensures { result ≡ enables_after p s.enables }
 {

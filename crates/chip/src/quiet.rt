@@ -12,12 +12,14 @@ pub fn clock_rises(p: Pins, s: State) -> bool
     sides::clocks::write_rises(p, s.write) | sides::clocks::read_rises(p, s.read)
 }
 
+#[tactic(auto, unfolding(crate::specs::Quiet::quiet))]
 pub fn is_quiet(p: Pins, s: State) -> bool
     ensures { result ≡ quiet p s }
 {
     p.mrs & p.prs & !clock_rises(p, s)
 }
 
+#[tactic(auto, unfolding(crate::specs::Quiet::held))]
 pub fn hold(p: Pins, s: State) -> State
     ensures { result ≡ held p s }
 {

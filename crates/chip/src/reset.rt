@@ -13,6 +13,7 @@ use sides::write::WriteSide;
 use views::retransmit::{Setup, View};
 use views::stages::{ReadRise, WriteRise};
 
+#[tactic(auto, unfolding(crate::specs::Reset::powered_up))]
 pub fn power_up() -> State
     ensures { PoweredUp result }
 {
@@ -27,6 +28,7 @@ pub fn power_up() -> State
     clear(false, true, true, Mode::Standard, offsets, reading, enables)
 }
 
+#[tactic(auto, unfolding(crate::specs::Reset::master_reset))]
 pub(crate) fn reset_master(p: Pins, s: State) -> State
     ensures { result ≡ master_reset p s }
 {
@@ -37,6 +39,7 @@ pub(crate) fn reset_master(p: Pins, s: State) -> State
     clear(true, p.wclk, p.rclk, mode, offsets, reading, enables)
 }
 
+#[tactic(auto, unfolding(crate::specs::Reset::partial_reset))]
 pub(crate) fn reset_partial(p: Pins, s: State) -> State
     ensures { result ≡ partial_reset p s }
 {
@@ -50,6 +53,7 @@ pub(crate) fn reset_partial(p: Pins, s: State) -> State
     clear(s.started, p.wclk, p.rclk, mode, s.offsets, reading, enables)
 }
 
+#[tactic(auto, unfolding(crate::specs::Reset::cleared))]
 fn clear(
     started: bool,
     wclk: bool,

@@ -22,12 +22,14 @@ pub struct State {
     pub enables: Enables,
 }
 
+#[tactic(auto, unfolding(crate::specs::State::passes))]
 pub fn passes_test(part: Part, s: State) -> bool
     ensures { Tested part s result }
 {
     fits_widths(part, s) & is_in_reach(part, s)
 }
 
+#[tactic(auto, unfolding(crate::specs::State::widths))]
 fn fits_widths(part: Part, s: State) -> bool
     ensures { result ≡ widths part s }
 {
@@ -38,6 +40,7 @@ fn fits_widths(part: Part, s: State) -> bool
         & pins::record::is_word(s.read.output)
 }
 
+#[tactic(auto, unfolding(crate::specs::State::in_reach))]
 fn is_in_reach(part: Part, s: State) -> bool
     ensures { result ≡ in_reach (depth_of part) s }
 {
