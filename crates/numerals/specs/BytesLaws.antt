@@ -79,7 +79,7 @@ records_put : (bytes : List ℕ) (word index many on : ℕ) → on < many → (i
 unfolding items_from
 records_put bytes word index zero on below within h = absurd (omega arith)
 records_put bytes word index (suc many) zero below within h =
-    rw (add-zero) (rw (put_same bytes index word (omega arith) h) (ap (λ (l : List ℕ). word ∷ l) (records_later bytes index word (index + 1) many (omega arith))))
+    simp add-zero (rw (put_same bytes index word (omega arith) h) (ap (λ (l : List ℕ). word ∷ l) (records_later bytes index word (index + 1) many (omega arith))))
 records_put bytes word index (suc many) (suc on) below within h =
     let n : index + suc on ≢ index = λ e. absurd (omega arith) in
     let later : index + suc on ≡ index + 1 + on = omega arith in

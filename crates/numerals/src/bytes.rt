@@ -4,6 +4,7 @@ ghost use Rattle.std.specs.Prelude.{◌+◌, ◌<◌, length, ◌≡◌};
 ghost use Rattle.numerals.specs.Bytes.{half_at, low_first, low_first_at, pair, put_four, put_word};
 ghost use Rattle.pins.specs.Trace.{word_at};
 
+#[tactic(auto, unfolding(pins::specs::Trace::word_at))]
 pub fn word_at(bytes: &[u8], at: usize) -> u32
     requires { at + 3 < length bytes.now }
     ensures { result ≡ word_at bytes.now at }
@@ -11,6 +12,7 @@ pub fn word_at(bytes: &[u8], at: usize) -> u32
     pins::trace::word_of(bytes[at], bytes[at + 1], bytes[at + 2], bytes[at + 3])
 }
 
+#[tactic(auto, unfolding(crate::specs::Bytes::low_first_at))]
 pub fn low_first_at(bytes: &[u8], at: usize) -> u32
     requires { at + 3 < length bytes.now }
     ensures { result ≡ low_first_at bytes.now at }
@@ -18,6 +20,7 @@ pub fn low_first_at(bytes: &[u8], at: usize) -> u32
     pins::trace::word_of(bytes[at + 3], bytes[at + 2], bytes[at + 1], bytes[at])
 }
 
+#[tactic(auto, unfolding(crate::specs::Bytes::half_at))]
 pub fn half_at(bytes: &[u8], at: usize) -> u16
     requires { at + 1 < length bytes.now }
     ensures { result ≡ half_at bytes.now at }
@@ -25,6 +28,7 @@ pub fn half_at(bytes: &[u8], at: usize) -> u16
     wide(bytes[at + 1]) * 256 + wide(bytes[at])
 }
 
+#[tactic(auto, unfolding(crate::specs::Bytes::put_word))]
 pub fn put_word(bytes: &mut [u8], at: usize, word: u32)
     requires { at + 3 < length bytes.old }
     ensures { bytes.new ≡ put_word bytes.old at word }
@@ -67,6 +71,7 @@ pub fn put_pair(bytes: &mut [u8], at: usize, first: u16, second: u16)
     );
 }
 
+#[tactic(auto, unfolding(crate::specs::Bytes::put_four))]
 pub fn put_four(bytes: &mut [u8], at: usize, first: u8, second: u8, third: u8, fourth: u8)
     requires { at + 3 < length bytes.old }
     ensures { bytes.new ≡ put_four bytes.old at (record { first = first; second = second; third = third; fourth = fourth }) }

@@ -21,6 +21,7 @@ pub fn refusal(part: Part, p: Pins, s: State) -> u8
 }
 
 // Most samples are free: one look for them, in place of one for each row.
+#[tactic(auto, unfolding(crate::specs::Free::free))]
 fn is_free(p: Pins, s: State) -> bool
     ensures { result ≡ free p s }
 {
@@ -29,6 +30,7 @@ fn is_free(p: Pins, s: State) -> bool
     s.started & p.ld & p.rt & !p.unsettled & views::retransmit::is_seen(view)
 }
 
+#[tactic(auto, unfolding(crate::specs::Refuse::refusal_of))]
 fn first_refusal(part: Part, p: Pins, s: State) -> u8
     ensures { Refuses part p s result }
 {
@@ -67,12 +69,14 @@ fn refuses_five(p: Pins, s: State) -> bool
     !s.started & p.mrs
 }
 
+#[tactic(auto, unfolding(crate::specs::Refuse::refuses_six))]
 fn refuses_six(p: Pins, s: State) -> bool
     ensures { result ≡ refuses_six p s }
 {
     chip::quiet::clock_rises(p, s) & !p.ld & several_low(p.wen, p.ren, p.sen)
 }
 
+#[tactic(auto, unfolding(crate::specs::Refuse::refuses_seven))]
 fn refuses_seven(p: Pins, s: State) -> bool
     ensures { result ≡ refuses_seven p s }
 {
@@ -81,6 +85,7 @@ fn refuses_seven(p: Pins, s: State) -> bool
     sides::clocks::write_rises(p, s.write) & !p.ld & asks_unselected(method, p)
 }
 
+#[tactic(auto, unfolding(crate::specs::Refuse::refuses_eight))]
 fn refuses_eight(p: Pins, s: State) -> bool
     ensures { result ≡ refuses_eight p s }
 {
@@ -88,6 +93,7 @@ fn refuses_eight(p: Pins, s: State) -> bool
         & (!p.ren | !p.wen | !chip::enables::is_last_fall_clean(p, s))
 }
 
+#[tactic(auto, unfolding(crate::specs::Refuse::refuses_nine))]
 fn refuses_nine(part: Part, p: Pins, s: State) -> bool
     ensures { result ≡ refuses_nine (depth_of part) p s }
 {
@@ -98,6 +104,7 @@ fn refuses_nine(part: Part, p: Pins, s: State) -> bool
         & (sides::write::accepted_none(s.write) | sides::write::accepted_more(most, s.write))
 }
 
+#[tactic(auto, unfolding(crate::specs::Refuse::refuses_ten))]
 fn refuses_ten(p: Pins, s: State) -> bool
     ensures { result ≡ refuses_ten p s }
 {
@@ -107,6 +114,7 @@ fn refuses_ten(p: Pins, s: State) -> bool
 }
 
 // A write with LD HIGH, a parallel load with LD LOW.
+#[tactic(auto, unfolding(crate::specs::Refuse::refuses_twelve))]
 fn refuses_twelve(p: Pins, s: State) -> bool
     ensures { result ≡ refuses_twelve p s }
 {
