@@ -55,6 +55,7 @@ pub fn step(part: Part, record: u32, state: State, memory: &mut [u32]) -> Sample
 }
 
 // Such a record is never refused and moves only what is remembered of the pins: neither the refusals nor the memory need be looked at.
+#[tactic(auto, unfolding(crate::specs::Still::still))]
 pub fn is_still(record: u32, state: State) -> bool
     ensures { result ≡ still «record» state }
 {
@@ -93,6 +94,7 @@ pub fn is_depth(part: Part, words: usize) -> bool
 }
 
 // The number, 5 to 10 or 12, of the first refusal that applies to a record of four bytes, or 0.
+#[tactic(auto, unfolding(crate::specs::Sample::record_refusal))]
 pub fn refuse_record(part: Part, record: u32, state: State) -> u8
     ensures { RefusesRecord part «record» state result }
 {
@@ -100,6 +102,7 @@ pub fn refuse_record(part: Part, record: u32, state: State) -> u8
 }
 
 // What a sample that is not refused gives.
+#[tactic(auto, unfolding(crate::specs::Sample::taken))]
 pub fn take(part: Part, p: Pins, state: State, memory: &mut [u32]) -> Sampled
     requires { widths part state ≡ true }
     ensures { Gives (taken part p state memory.old) result memory.new }

@@ -1,6 +1,6 @@
 -- Bench figures, the C call: one word put into the bytes of a memory is one word put into its words.
 use Rattle.std.specs.Prelude.{ℕ, zero, suc, ◌+◌, ◌*◌, ◌/◌, ◌≤◌, ◌<◌, ◌^◌, List, ◌∷◌, ◌≢◌, ◌≡◌, refl, get_or, length, set}
-use Rattle.std.proofs.Common.{ap, subst, ◌∙◌, length-set, get_or-set_other, get_or-set_same, add-zero, mod-eq_of_lt, zero-add, arith}
+use Rattle.std.proofs.Common.{sym, ap, subst, ◌∙◌, length-set, get_or-set_other, get_or-set_same, add-zero, mod-eq_of_lt, zero-add, arith}
 use Rattle.pins.specs.Trace.{joined, items_from, records_from, whole_records, word_at}
 use Rattle.numerals.specs.Bytes.{byte_of, low_byte, put_four, put_word, words_in}
 
@@ -79,11 +79,12 @@ records_put : (bytes : List ℕ) (word index many on : ℕ) → on < many → (i
 unfolding items_from
 records_put bytes word index zero on below within h = absurd (omega arith)
 records_put bytes word index (suc many) zero below within h =
-    simp add-zero (rw (put_same bytes index word (omega arith) h) (ap (λ (l : List ℕ). word ∷ l) (records_later bytes index word (index + 1) many (omega arith))))
+    subst (λ (k : ℕ). records_from (put_word bytes (k * 4) word) index (suc many) ≡ set (records_from bytes index (suc many)) 0 word) (sym (add-zero index))
+    (rw (put_same bytes index word (omega arith) h) (ap (λ (l : List ℕ). word ∷ l) (records_later bytes index word (index + 1) many (omega arith))))
 records_put bytes word index (suc many) (suc on) below within h =
     let n : index + suc on ≢ index = λ e. absurd (omega arith) in
     let later : index + suc on ≡ index + 1 + on = omega arith in
-    rw (put_other bytes (index + suc on) word index n) (ap (λ (l : List ℕ). word_at bytes (index * 4) ∷ l) (rw later (records_put bytes word (index + 1) many on (omega arith) (omega arith) h)))
+    rw (put_other bytes (index + suc on) word index n) (ap (λ (l : List ℕ). word_at bytes (index * 4) ∷ l) (subst (λ (k : ℕ). records_from (put_word bytes (k * 4) word) (index + 1) many ≡ set (records_from bytes (index + 1) many) on word) (sym later) (records_put bytes word (index + 1) many on (omega arith) (omega arith) h)))
 
 records_get : (bytes : List ℕ) (index many on : ℕ) → on < many → get_or (records_from bytes index many) on 0 ≡ word_at bytes ((index + on) * 4)
 unfolding items_from
