@@ -11,6 +11,7 @@ pub struct Composite {
     pub ef: bool,
 }
 
+#[tactic(auto, unfolding(crate::specs::Composite::composite_of))]
 pub fn compose(mode: Mode, left: u32, right: u32) -> Composite
     ensures { Composes mode left right result }
 {

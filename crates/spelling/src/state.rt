@@ -16,6 +16,7 @@ use sides::write::WriteSide;
 // Nineteen digits and the number of serial bits, eleven numbers of 16 bits and two of 32; two bytes are left over.
 pub const STATE_BYTES: usize = 52;
 
+#[tactic(auto, unfolding(crate::specs::Spelling::state_in))]
 pub fn read_state(bytes: &[u8]) -> State
     requires { length bytes.now ≡ state_bytes }
     ensures { result ≡ state_in bytes.now }
@@ -35,6 +36,7 @@ pub fn read_state(bytes: &[u8]) -> State
     }
 }
 
+#[tactic(auto, unfolding(crate::specs::Spelling::write_in))]
 fn read_write_side(bytes: &[u8]) -> WriteSide
     requires { length bytes.now ≡ state_bytes }
     ensures { result ≡ write_in bytes.now }
@@ -53,6 +55,7 @@ fn read_write_side(bytes: &[u8]) -> WriteSide
     }
 }
 
+#[tactic(auto, unfolding(crate::specs::Spelling::read_in))]
 fn read_read_side(bytes: &[u8]) -> ReadSide
     requires { length bytes.now ≡ state_bytes }
     ensures { result ≡ read_in bytes.now }
@@ -73,6 +76,7 @@ fn read_read_side(bytes: &[u8]) -> ReadSide
     }
 }
 
+#[tactic(auto, unfolding(crate::specs::Spelling::offsets_in))]
 fn read_offsets(bytes: &[u8]) -> Offsets
     requires { length bytes.now ≡ state_bytes }
     ensures { result ≡ offsets_in bytes.now }
@@ -89,6 +93,7 @@ fn read_offsets(bytes: &[u8]) -> Offsets
     }
 }
 
+#[tactic(auto, unfolding(crate::specs::Spelling::reading_in))]
 fn read_reading(bytes: &[u8]) -> Reading
     requires { length bytes.now ≡ state_bytes }
     ensures { result ≡ reading_in bytes.now }
@@ -101,6 +106,7 @@ fn read_reading(bytes: &[u8]) -> Reading
     }
 }
 
+#[tactic(auto, unfolding(crate::specs::Spelling::enables_in))]
 fn read_enables(bytes: &[u8]) -> Enables
     requires { length bytes.now ≡ state_bytes }
     ensures { result ≡ enables_in bytes.now }
@@ -113,6 +119,7 @@ fn read_enables(bytes: &[u8]) -> Enables
     }
 }
 
+#[tactic(auto, unfolding(crate::specs::Spelling::level_at))]
 fn level_at(bytes: &[u8], at: usize) -> bool
     requires { at < length bytes.now }
     ensures { result ≡ level_at bytes.now at }
@@ -120,6 +127,7 @@ fn level_at(bytes: &[u8], at: usize) -> bool
     digits::level(bytes[at])
 }
 
+#[tactic(auto, unfolding(crate::specs::Spelling::spells))]
 pub fn spells_state(bytes: &[u8]) -> bool
     requires { length bytes.now ≡ state_bytes }
     ensures { result ≡ spells bytes.now }
@@ -127,6 +135,7 @@ pub fn spells_state(bytes: &[u8]) -> bool
     are_digits(bytes) & is_blank_elsewhere(bytes)
 }
 
+#[tactic(auto, unfolding(crate::specs::Spelling::spelled_digits))]
 fn are_digits(bytes: &[u8]) -> bool
     requires { length bytes.now ≡ state_bytes }
     ensures { result ≡ spelled_digits bytes.now }
@@ -152,6 +161,7 @@ fn are_levels(bytes: &[u8], at: usize) -> bool
         & (four / 16777216 % 256 < 2)
 }
 
+#[tactic(auto, unfolding(crate::specs::Spelling::blank_elsewhere))]
 fn is_blank_elsewhere(bytes: &[u8]) -> bool
     requires { length bytes.now ≡ state_bytes }
     ensures { result ≡ blank_elsewhere bytes.now }
@@ -287,6 +297,7 @@ fn put_enables(enables: Enables, bytes: &mut [u8])
 }
 
 // All that a sample outside reset changes in which no clock rises.
+#[tactic(auto, unfolding(crate::specs::Spelling::put_remembered))]
 pub fn put_remembered(wclk: bool, rclk: bool, enables: Enables, bytes: &mut [u8])
     requires { length bytes.old ≡ state_bytes }
     ensures { bytes.new ≡ put_remembered wclk rclk enables bytes.old }
@@ -295,6 +306,7 @@ pub fn put_remembered(wclk: bool, rclk: bool, enables: Enables, bytes: &mut [u8]
     put_enables(enables, bytes);
 }
 
+#[tactic(auto, unfolding(crate::specs::Spelling::put_clocks))]
 fn put_clocks(wclk: bool, rclk: bool, bytes: &mut [u8])
     requires { length bytes.old ≡ state_bytes }
     ensures { bytes.new ≡ put_clocks wclk rclk bytes.old }
