@@ -1,5 +1,5 @@
 -- All that a history needs to know of a depth; shown once, for any power of two.
-use Rattle.std.specs.Prelude.{◌≡◌, ℕ, suc, ◌+◌, ◌-◌, ◌%◌, ◌^◌, ◌<◌, ◌≤◌, ◌≢◌}
+use Rattle.std.specs.Prelude.{◌≡◌, ℕ, suc, ◌+◌, ◌%◌, ◌^◌, ◌<◌, ◌≤◌, ◌≢◌}
 use Rattle.std.proofs.Common.{sym, ap, ◌∙◌, pow_pos, pow_mono, arith}
 use Rattle.std.proofs.Math.Pow.{mod-mod-pow}
 use Rattle.counts.specs.declared.part.Part.{Part}

@@ -6,6 +6,7 @@ use super::record::Links;
 use pins::record::Pins;
 
 // `started` says that every part has had a Master Reset, `parts` is the least number that a part gives.
+#[tactic(auto, unfolding(crate::specs::Refuse::whole_refusal))]
 pub fn refusal(x: Links, started: bool, parts: u8) -> u8
     ensures { result ≡ whole_refusal x started parts }
 {
@@ -23,12 +24,14 @@ fn pick(applies: bool, number: u8, otherwise: u8) -> u8
     if applies { number } else { otherwise }
 }
 
+#[tactic(auto, unfolding(crate::specs::Refuse::fourteen))]
 fn is_fourteen(p: Pins) -> bool
     ensures { result ≡ fourteen p }
 {
     (p.mrs & p.prs & (!p.rt | !p.ld)) | (!p.mrs & !p.fwft)
 }
 
+#[tactic(auto, unfolding(crate::specs::Refuse::least))]
 pub fn least(one: u8, other: u8) -> u8
     ensures { result ≡ least one other }
 {

@@ -7,6 +7,7 @@ use pins::answer::Lines;
 use pins::record::{Pins, Skew};
 
 // `earlier` and `later` are what the neighbours show before the sample.
+#[tactic(auto, unfolding(crate::specs::Wire::wired))]
 pub fn wire(x: Links, marks: Skew, first: bool, last: bool, earlier: Lines, later: Lines) -> Pins
     ensures { result ≡ wired x marks first last earlier later }
 {
@@ -42,6 +43,7 @@ fn pick_word(own: bool, word: u32, other: u32) -> u32
 }
 
 // What the chain answers: IR and PAF of the first part, the rest of the last.
+#[tactic(auto, unfolding(crate::specs::Wire::ends_of))]
 pub fn join_ends(first: Lines, last: Lines) -> Lines
     ensures { result ≡ ends_of first last }
 {

@@ -60,6 +60,7 @@ module _ {S M : Type 0} (lenient : Bool) (bytes whole : ℕ) (sized passes : Par
 
   pub begins : (number : ℕ) (part : Part) → part_of number ≡ Known part → {Sized : Type 0} → (Sized → sized part ≡ true) → (¬ Sized → sized part ≡ false)
       → Begins lenient Sized bytes whole (passes part) (begun number fits passes worked g) (worked part) g
+  unfolding begun
   begins number part k {Sized} is none =
       let away : fits part ≡ false → begun number fits passes worked g ≡ ended 2 0 g = begun_room number fits passes worked g (sym k) part refl in
       let fit : Sized → bytes ≤ length g.answers → (lenient ≡ true → whole ≤ length g.marks) → fits part ≡ true =
@@ -68,6 +69,6 @@ module _ {S M : Type 0} (lenient : Bool) (bytes whole : ℕ) (sized passes : Par
         two_by_memory = λ s. away (simp (none s));
         two_by_answers = λ short. away (simp (lt-leb bytes (length g.answers) short, and-false));
         two_by_marks = λ l short. away (simp (l, lt-leb whole (length g.marks) short, and-false));
-        three = λ s room marks. begun_state number fits passes worked g (sym k) part refl (fit s room marks);
+        three = λ s room marks t. let f : fits part ≡ true = fit s room marks in simp (k, f, t);
         works = λ s room marks. begun_works number fits passes worked g (sym k) part refl (fit s room marks);
       }

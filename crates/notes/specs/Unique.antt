@@ -8,4 +8,5 @@ module _ {S M R : Type 0} {ran : Ended S M → R} {expected : Ended S M} {a b : 
   strict_unique f g = (f.result ∙ sym g.result, f.words ∙ sym g.words, f.room ∙ sym g.room)
 
   pub ends_unique : {i j : List ℕ} → Ends ran expected a m k i → Ends ran expected b n l j → (a ≡ b) × (m ≡ n) × (k ≡ l) × (i ≡ j)
-  ends_unique f g = let same = strict_unique f.strict g.strict in (same.0, same.1, same.2, f.marked ∙ sym g.marked)
+  ends_unique f g =
+      (f.strict.result ∙ sym g.strict.result, f.strict.words ∙ sym g.strict.words, f.strict.room ∙ sym g.strict.room, f.marked ∙ sym g.marked)

@@ -3,6 +3,7 @@ ghost use Rattle.std.specs.Prelude.{◌*◌, ◌+◌, ◌<◌, length, ◌≡◌
 ghost use Rattle.notes.specs.Fold.{roomy};
 ghost use Rattle.pins.specs.Answer.{put_answer};
 
+#[tactic(auto, unfolding(pins::specs::Answer::put_answer))]
 pub fn put_answer(answers: &mut [u8], index: usize, answer: u32)
     requires { index * 3 + 2 < length answers.old }
     ensures { answers.new ≡ put_answer answers.old index answer }

@@ -13,7 +13,7 @@ use Rattle.offsets.specs.declared.registers.Method.{Method}
 use Rattle.offsets.specs.declared.registers.Method.TheVariants.{Parallel, Serial}
 use Rattle.offsets.specs.declared.registers.Next.TheVariants.{N, M}
 use Rattle.offsets.specs.declared.registers.Offsets.{Offsets}
-use Rattle.offsets.specs.Loading.{load_parallel, load_serial, loaded_by, offsets_after, pushed, with_bit}
+use Rattle.offsets.specs.Loading.{load_parallel, load_serial, loaded_by, offsets_after, with_bit}
 
 -- what loads: a rise with LD LOW and the enable of the method LOW
 abbrev pub Asked : Type 0 → Bool → Bool → Type 0
@@ -44,7 +44,8 @@ else_by true true enable loaded o told none = refl
 else_by true false true loaded o told none = refl
 else_by true false false loaded o told none = absurd (none (told.0 refl, refl, refl))
 
-least_first : (x : ℕ) (o : Offsets) → o.serial ≡ x % 2 ^ o.count → pushed (bit o.count x) o ≡ x % 2 ^ (1 + o.count)
+least_first : (x : ℕ) (o : Offsets) → o.serial ≡ x % 2 ^ o.count
+    → o.serial + cond (bit o.count x) (2 ^ o.count) 0 ≡ x % 2 ^ (1 + o.count)
 least_first x o e = rw (mod-pow-add x 1 o.count) (omega (arith, level_back o.count x))
 
 by_method : (part : Part) (p : Pins) (rises : Bool) (o : Offsets) (method : Method) → o.method ≡ method

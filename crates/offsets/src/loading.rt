@@ -60,7 +60,7 @@ fn load_parallel(part: Part, d: u32, o: Offsets) -> Offsets
     }
 }
 
-#[tactic(auto, using(crate::specs::Fits::few_bits, crate::specs::Fits::fits), unfolding(crate::specs::Loading::load_serial, crate::specs::Loading::with_bit))]
+#[tactic(auto, using(crate::specs::Fits::fits), unfolding(crate::specs::Loading::load_serial, crate::specs::Loading::with_bit))]
 fn load_serial(part: Part, bit: bool, o: Offsets) -> Offsets
     requires { fit part o ≡ true }
     ensures { result ≡ load_serial part bit o }
@@ -93,7 +93,7 @@ fn load_serial(part: Part, bit: bool, o: Offsets) -> Offsets
     }
 }
 
-#[tactic(auto, using(crate::specs::Fits::few_bits, crate::specs::Fits::fits, crate::specs::Fits::serial_small))]
+#[tactic(auto, using(crate::specs::Fits::fits, crate::specs::Fits::serial_small))]
 fn push(bit: bool, part: Part, o: Offsets) -> u32
     requires { fit part o ≡ true }
     ensures { result ≡ pushed bit o }
