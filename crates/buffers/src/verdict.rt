@@ -51,6 +51,7 @@ fn judge_state(part: Part, record: &[u8], state: &[u8]) -> Verdict
     }
 }
 
+#[tactic(auto, unfolding(crate::specs::Verdict::on_record))]
 fn judge_record(part: Part, record: &[u8]) -> Verdict
     ensures { result ≡ on_record part «record».now }
 {

@@ -31,10 +31,10 @@ use Rattle.pins.specs.Trace.{record_at, whole_records, word_at}
 use Rattle.pins.specs.TraceLaws.{is_whole, none_whole, whole_below, whole_word}
 use Rattle.runs.specs.Run.{Progress, at_end, fitting, ran_of, run_of, turn, turned, worked}
 
-pub no_whole : (r : Record) → (tag_of the_type r ≡ 1) ⊎ (tag_of the_type r ≡ 2) → is_whole r ≡ false
-no_whole (Whole word unsettled) t = absurd (⊎_elim (λ z. omega arith) (λ z. omega arith) t)
-no_whole Leftover t = refl
-no_whole End t = refl
+pub no_whole : (r : Record) → ((word : ℕ) (unsettled : Bool) → r ≡ Whole word unsettled → ⊥) → is_whole r ≡ false
+no_whole (Whole word unsettled) other = absurd (other word unsettled refl)
+no_whole Leftover other = refl
+no_whole End other = refl
 
 answers_length : (outcome : Outcome) (index : ℕ) (room : List ℕ) → length (answers_after outcome index room) ≡ length room
 answers_length (Taken answer) index room = put_length room index answer
