@@ -2,9 +2,7 @@
 use Prim.Native.Nat.{ℕ, ◌+◌, ◌*◌, ◌<◌}
 use mathlib.Core.Bool.{Bool, true, false}
 use mathlib.Core.List.{List}
-use mathlib.Core.Logic.{◌⊎◌, ⊎_elim}
 use mathlib.Core.Path.{◌≡◌, refl, sym, ap, ◌∙◌}
-use denote.Enum.Declared.{tag_of}
 use lib.ListN.{length}
 use native.Mathlib.Omega.{arith}
 use Rattle.chip.specs.State.{passes, widths}
@@ -23,7 +21,6 @@ use Rattle.notes.specs.Fold.{Ends, accepted_after, ended, marks_after, stops}
 use Rattle.notes.specs.LoopLaws as loop
 use Rattle.notes.specs.LoopLaws.{Steady}
 use Rattle.notes.specs.NoteLaws.{put_length}
-use Rattle.pins.specs.contracts.trace.Record.{the_type}
 use Rattle.pins.specs.declared.trace.Record.{Record}
 use Rattle.pins.specs.declared.trace.Record.TheVariants.{Whole, Leftover, End}
 use Rattle.pins.specs.Trace as trace
