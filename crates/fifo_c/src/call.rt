@@ -7,15 +7,13 @@ use buffers::verdict::Verdict;
 use counts::part::Lookup;
 use spelling::state::STATE_BYTES;
 
-#[unsafe(no_mangle)]
-pub extern "C" fn fifo_state_bytes() -> u32
+pub fn fifo_state_bytes() -> u32
     ensures { GivesStateBytes result }
 {
     52
 }
 
-#[unsafe(no_mangle)]
-pub extern "C" fn fifo_memory_bytes(part: u32) -> u32
+pub fn fifo_memory_bytes(part: u32) -> u32
     ensures { GivesMemoryBytes part result }
 {
     let looked_up = counts::part::look_up(part);
@@ -25,8 +23,7 @@ pub extern "C" fn fifo_memory_bytes(part: u32) -> u32
     }
 }
 
-#[unsafe(no_mangle)]
-pub extern "C" fn fifo_power_up(state: &mut [u8]) -> u32
+pub fn fifo_power_up(state: &mut [u8]) -> u32
     ensures { PowersUp state.old result state.new }
 {
     if state.len() == STATE_BYTES {
@@ -37,8 +34,7 @@ pub extern "C" fn fifo_power_up(state: &mut [u8]) -> u32
     }
 }
 
-#[unsafe(no_mangle)]
-pub extern "C" fn fifo_sample(
+pub fn fifo_sample(
     part: u32,
     record: &[u8],
     state: &mut [u8],
