@@ -27,6 +27,7 @@ pub fn test(number: u32, row: Row, words: usize, roomy: bool) -> Verdict
     }
 }
 
+#[tactic(auto, unfolding(crate::specs::Test::known_test))]
 fn test_known(part: Part, row: Row, words: usize, roomy: bool) -> Verdict
     requires { row.count ≤ 8 }
     ensures { result ≡ known_test part row words roomy }

@@ -2,9 +2,8 @@
 use Prim.Native.Nat.{ℕ, ◌+◌, ◌<◌}
 use mathlib.Core.Bool.{Bool, true, false, cond}
 use mathlib.Core.List.{List}
-use mathlib.Core.Logic.{◌⊎◌, ◌≢◌, ⊎_elim}
+use mathlib.Core.Logic.{◌≢◌}
 use mathlib.Core.Path.{◌≡◌, refl, sym, ap, ◌∙◌}
-use denote.Enum.Declared.{tag_of}
 use lib.Dec.{eqb}
 use lib.ListN.{length}
 use borrow.Author.Tests.{eqb-false, eqb-true}
@@ -20,7 +19,6 @@ use Rattle.notes.specs.LoopLaws as loop
 use Rattle.notes.specs.LoopLaws.{Steady, stopped_number}
 use Rattle.notes.specs.NoteLaws.{put_length}
 use Rattle.pins.specs.Answer.{put_answer}
-use Rattle.chain_work.specs.contracts.records.Record.{the_type}
 use Rattle.chain_work.specs.declared.records.Record.{Record}
 use Rattle.chain_work.specs.declared.records.Record.TheVariants.{Whole, Leftover, End}
 use Rattle.rows.specs.declared.row.Row.{Row}
@@ -32,8 +30,8 @@ use Rattle.rows.specs.Step.{After, Moving, chain_answer, chain_refusal, chain_st
 use Rattle.rows.specs.StepLaws.{step_fits, step_length, step_still, step_taken, step_told}
 use Rattle.chain_work.specs.Work.{Progress, at_end, ran_of, turn, turned, worked}
 
-pub no_whole : (r : Record) → (tag_of the_type r ≡ 1) ⊎ (tag_of the_type r ≡ 2) → is_whole r ≡ false
-no_whole (Whole head more) t = absurd (⊎_elim (λ z. omega arith) (λ z. omega arith) t)
+pub no_whole : (r : Record) → ((head more : ℕ) → r ≢ Whole head more) → is_whole r ≡ false
+no_whole (Whole head more) t = absurd (t head more refl)
 no_whole Leftover t = refl
 no_whole End t = refl
 

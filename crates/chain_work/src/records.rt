@@ -11,6 +11,7 @@ pub enum Record {
     End,
 }
 
+#[tactic(auto, unfolding(crate::specs::Records::record_at))]
 pub fn record_at(trace: &[u8], index: usize) -> Record
     ensures { Reads trace.now index result }
 {

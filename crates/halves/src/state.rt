@@ -21,6 +21,7 @@ pub fn power_up() -> Halves
     }
 }
 
+#[tactic(auto, unfolding(crate::specs::State::passes_both))]
 pub fn passes_test(part: Part, state: Halves) -> bool
     ensures { Tested part state result }
 {

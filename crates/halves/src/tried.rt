@@ -76,6 +76,7 @@ fn try_each(part: Part, left: Trial, right: Trial) -> Trials
     }
 }
 
+#[tactic(auto, unfolding(crate::specs::Tried::tried))]
 fn try_one(part: Part, trial: Trial) -> Trial
     requires { widths part trial.advanced.state ≡ true }
     ensures { result ≡ tried part trial }

@@ -1,15 +1,28 @@
 // A trace comes on standard input and is worked chunk by chunk, so that one of any length takes the same memory.
 ghost use Rattle.io.specs.Counts.{IsPrefixLen};
-ghost use Rattle.std.specs.Prelude.{ltb, ◌||◌, not, ◌≡◌};
+ghost use Rattle.std.specs.Io.KnownBytes.{Consumes};
+ghost use Rattle.std.specs.Prelude.{ltb, ◌||◌, not, take, ◌≡◌};
+
+use std::io::Read;
 
 // In records or samples: whole ones, so that none lies across two chunks.
 pub const RECORDS: usize = 4096;
 
-// How many bytes came, from the start of the chunk on.
-pub fn read(chunk: &mut [u8]) -> usize
-    ensures { IsPrefixLen result chunk.new }
+// How many bytes came, from the start of the chunk on; they are the next ones, where the reader's are known. A read that fails ends
+// the input.
+pub fn read<R: Read>(input: &mut R, chunk: &mut [u8]) -> usize
+    ensures in_bounds { IsPrefixLen result chunk.new }
+    ensures bytes { Consumes (R.remaining input.old) (R.remaining input.new) (take result chunk.new) }
 {
-    io::read_full(libc::STDIN_FILENO, chunk)
+    let mut came: usize = 0;
+    while came < chunk.len() {
+        match input.read(&mut chunk[came..]) {
+            Ok(0) => break,
+            Ok(more) => came += more,
+            Err(_) => break,
+        }
+    }
+    came
 }
 
 // A chunk that is not full is the last; and there is no use in going on where nobody takes the lines.

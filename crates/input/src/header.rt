@@ -2,12 +2,16 @@
 ghost use Rattle.input.specs.Header.{number_of, parts_of};
 ghost use Rattle.std.specs.Prelude.{◌<◌, ◌≡◌};
 
-pub fn read_part_number() -> u32 {
+use super::chunks;
+use std::io::Read;
+
+pub fn read_part_number<R: Read>(input: &mut R) -> u32 {
     let mut header = [0u8; 2];
-    let came = io::read_full(libc::STDIN_FILENO, &mut header);
+    let came = chunks::read(input, &mut header);
     part_number(&header[..came])
 }
 
+#[tactic(auto, unfolding(crate::specs::Header::number_of))]
 fn part_number(header: &[u8]) -> u32
     ensures { result ≡ number_of header.now }
 {
@@ -18,12 +22,13 @@ fn part_number(header: &[u8]) -> u32
     }
 }
 
-pub fn read_count_of_parts() -> usize {
+pub fn read_count_of_parts<R: Read>(input: &mut R) -> usize {
     let mut header = [0u8; 1];
-    let came = io::read_full(libc::STDIN_FILENO, &mut header);
+    let came = chunks::read(input, &mut header);
     count_of_parts(&header[..came])
 }
 
+#[tactic(auto, unfolding(crate::specs::Header::parts_of))]
 fn count_of_parts(header: &[u8]) -> usize
     ensures { result ≡ parts_of header.now }
 {

@@ -5,6 +5,7 @@ ghost use Rattle.lines.specs.Flags.{digit_of, noted};
 use text::bytes;
 
 // The flags of the record at index `i` of the chunk.
+#[tactic(auto, unfolding(crate::specs::Flags::noted))]
 pub fn note(flags: &mut [u8], i: usize, first: bool, second: bool)
     requires { i * 2 + 2 ≤ length flags.old }
     ensures { flags.new ≡ noted flags.old i first second }

@@ -18,6 +18,7 @@ pub enum Layout {
 
 // All lines of a chunk, whose first record has the index `base`, in one write. What comes back is whether somebody took the lines.
 pub fn print_records(
+    out: &impl Print,
     room: &mut [u8],
     base: u64,
     layout: Layout,
@@ -28,16 +29,16 @@ pub fn print_records(
 ) -> bool {
     let count = least(records, room.len() / LONGEST);
     let end = put_records(room, base, layout, flags, answers, marks, count);
-    write_first(room, end)
+    write_first(out, room, end)
 }
 
 // The last line of all.
-pub fn print_end(tally: Tally) {
+pub fn print_end(out: &impl Print, tally: Tally) {
     let mut room = [0u8; LONGEST];
     let first = bytes::put_text(&mut room, 0, b"end ");
     let after = digits::put_decimal(&mut room, first, tally.accepted);
     let end = put_ending(&mut room, after, b" ", tally.refusal);
-    write_first(&room, end);
+    write_first(out, &room, end);
 }
 
 // A chunk's records always fit; one compare spares a law that says so.
@@ -47,10 +48,10 @@ fn least(a: usize, b: usize) -> usize
     if a < b { a } else { b }
 }
 
-fn write_first(room: &[u8], count: usize) -> bool
+fn write_first(out: &impl Print, room: &[u8], count: usize) -> bool
     requires { count ≤ length room.now }
 {
-    io::write_all(libc::STDOUT_FILENO, &room[..count])
+    out.write_all(&room[..count]).is_ok()
 }
 
 fn put_records(
@@ -125,6 +126,7 @@ fn put_taken(
     }
 }
 
+#[tactic(auto, unfolding(crate::specs::Records::put_flags))]
 fn put_flags(room: &mut [u8], at: usize, flags: &[u8], from: usize)
     requires { (at + 3 ≤ length room.old) × (from + 1 < 2 ^ 64) }
     ensures { room.new ≡ put_flags room.old at flags.now from }
@@ -134,6 +136,7 @@ fn put_flags(room: &mut [u8], at: usize, flags: &[u8], from: usize)
     bytes::put_byte(room, at + 2, byte_at(flags, from + 1));
 }
 
+#[tactic(auto, unfolding(crate::specs::Records::put_answer))]
 fn put_answer(room: &mut [u8], at: usize, answers: &[u8], from: usize)
     requires { (at + 7 ≤ length room.old) × (from + 2 < 2 ^ 64) }
     ensures { room.new ≡ put_answer room.old at answers.now from }

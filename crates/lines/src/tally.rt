@@ -25,6 +25,7 @@ pub fn start() -> Tally
 }
 
 // A chunk more, in which a run ended at an index; it is the last one of the trace, or a refusal makes it so.
+#[tactic(auto, unfolding(crate::specs::Tally::counted))]
 pub fn count(before: Tally, index: usize, accepted: usize, refusal: u8, last: bool) -> Tally
     ensures { result ≡ counted before index accepted refusal last }
 {

@@ -1,10 +1,9 @@
 -- One law for each way out of a step and of a sample of two parts.
 use Prim.Native.Nat.{ℕ}
-use mathlib.Core.Bool.{Bool, true, false, not, ◌&&◌}
+use mathlib.Core.Bool.{Bool, true, false, ◌&&◌}
 use mathlib.Core.List.{List}
 use mathlib.Core.Path.{◌≡◌, refl, sym, ap, ◌∙◌}
 use lib.ListN.{length}
-use borrow.Author.Tests.{not-false, not-true}
 use Rattle.counts.specs.declared.part.Lookup.{Lookup}
 use Rattle.counts.specs.declared.part.Lookup.TheVariants.{Known, Unknown}
 use Rattle.counts.specs.declared.part.Part.{Part}
@@ -59,8 +58,8 @@ module _ (part : Part) (x : Two ℕ) (h : Halves) (memory : Two (List ℕ)) {tri
   pub stepped_refuses : (number ≡ 0 → ⊥) → pair_stepped part x h memory ≡ turned_away number h memory
   stepped_refuses some = rw judged ((step_numbered part x h memory).still (λ e. some (judged ∙ e)))
 
-pub passed : {found asked : Bool} → found ≡ asked → not found ≡ false → asked ≡ true
-passed {found} e n = sym e ∙ not-false found n
+pub passed : {found asked : Bool} → found ≡ asked → found ≡ true → asked ≡ true
+passed e n = sym e ∙ n
 
 module _ (number : ℕ) (x : Two ℕ) (h : Halves) (memory : Two (List ℕ)) {looked : Lookup} (e : looked ≡ part_of number) where
   pub sample_unknown : looked ≡ Unknown → pair_sampled number x h memory ≡ turned_away 1 h memory
@@ -69,14 +68,14 @@ module _ (number : ℕ) (x : Two ℕ) (h : Halves) (memory : Two (List ℕ)) {lo
 
   module _ (part : Part) (k : looked ≡ Known part) where
     module _ {sized : Bool} (d : sized ≡ single.is_depth part (length memory.left) && single.is_depth part (length memory.right)) where
-      pub sample_length : not sized ≡ true → pair_sampled number x h memory ≡ turned_away 2 h memory
+      pub sample_length : sized ≡ false → pair_sampled number x h memory ≡ turned_away 2 h memory
       unfolding pair_sampled
-      sample_length n = simp (← e, k, ← d, not-true sized n)
+      sample_length n = simp (← e, k, ← d, n)
 
-      module _ (s : not sized ≡ false) {tested : Bool} (f : tested ≡ passes_both part h) where
-        pub sample_state : not tested ≡ true → pair_sampled number x h memory ≡ turned_away 3 h memory
+      module _ (s : sized ≡ true) {tested : Bool} (f : tested ≡ passes_both part h) where
+        pub sample_state : tested ≡ false → pair_sampled number x h memory ≡ turned_away 3 h memory
         unfolding pair_sampled
-        sample_state n = simp (← e, k, ← d, not-false sized s, ← f, not-true tested n)
+        sample_state n = simp (← e, k, ← d, s, ← f, n)
 
-        pub sample_steps : not tested ≡ false → pair_sampled number x h memory ≡ pair_stepped part x h memory
+        pub sample_steps : tested ≡ true → pair_sampled number x h memory ≡ pair_stepped part x h memory
         sample_steps n = sample_is_step number x h memory part (sym e ∙ k) (passed d s) (passed f n)

@@ -79,6 +79,7 @@ pub fn step(
 }
 
 // Such records are never refused and move only what is remembered of the pins: neither the refusals nor the memories need be looked at.
+#[tactic(auto, unfolding(crate::specs::Still::still_both))]
 fn are_still(left: u32, right: u32, state: Halves) -> bool
     ensures { result ≡ still_both (two left right) state }
 {

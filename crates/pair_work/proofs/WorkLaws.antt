@@ -2,9 +2,7 @@
 use Prim.Native.Nat.{ℕ, ◌+◌, ◌*◌, ◌<◌}
 use mathlib.Core.Bool.{Bool, true, false, ◌&&◌, and-eq-true_iff}
 use mathlib.Core.List.{List}
-use mathlib.Core.Logic.{◌⊎◌, ⊎_elim}
 use mathlib.Core.Path.{◌≡◌, refl, sym, ap, ◌∙◌}
-use denote.Enum.Declared.{tag_of}
 use lib.ListN.{length}
 use native.Mathlib.Omega.{arith}
 use Rattle.chip.specs.State.{widths}
@@ -20,7 +18,6 @@ use Rattle.halves.specs.declared.state.Halves.{Halves}
 use Rattle.pair.specs.Sample.{After, Gives, answers_after, number_of, pair_stepped}
 use Rattle.pair.specs.SampleLaws.{step_lengths, step_numbered, step_widths}
 use Rattle.halves.specs.Two.{Two, two}
-use Rattle.pair_work.specs.contracts.samples.Sample.{the_type}
 use Rattle.pair_work.specs.declared.samples.Sample.{Sample}
 use Rattle.pair_work.specs.declared.samples.Sample.TheVariants.{Whole, Leftover, End}
 use Rattle.pair_work.specs.Work.{Progress, at_end, ran_of, turn, turned, worked}
@@ -28,10 +25,10 @@ use Rattle.pair_work.specs.Samples as samples
 use Rattle.pair_work.specs.Samples.{records_at, sample_at, whole_samples}
 use Rattle.pair_work.specs.SamplesLaws.{is_whole, none_whole, whole_below, whole_records_lem}
 
-pub no_whole : (r : Sample) → (tag_of the_type r ≡ 1) ⊎ (tag_of the_type r ≡ 2) → is_whole r ≡ false
-no_whole (Whole left right) t = absurd (⊎_elim (λ z. omega arith) (λ z. omega arith) t)
-no_whole Leftover t = refl
-no_whole End t = refl
+pub no_whole : (r : Sample) → ((left right : ℕ) → r ≡ Whole left right → ⊥) → is_whole r ≡ false
+no_whole (Whole left right) other = absurd (other left right refl)
+no_whole Leftover other = refl
+no_whole End other = refl
 
 answers_length : (outcome : Outcome) (index : ℕ) (room : List ℕ) → length (answers_after outcome index room) ≡ length room
 answers_length (Taken left right) index room = put_length _ (index * 2 + 1) right ∙ put_length room (index * 2) left

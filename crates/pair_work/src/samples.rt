@@ -9,6 +9,7 @@ pub enum Sample {
     End,
 }
 
+#[tactic(auto, unfolding(crate::specs::Samples::sample_at))]
 pub fn sample_at(trace: &[u8], index: usize) -> Sample
     ensures { Reads trace.now index result }
 {

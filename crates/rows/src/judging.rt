@@ -12,6 +12,7 @@ use links::record::Links;
 use pins::answer::Lines;
 use pins::record::Pins;
 
+#[tactic(auto, unfolding(crate::specs::Step::all_to))]
 pub fn pass_test(part: Part, row: Row) -> bool
     requires { row.count ≤ 8 }
     ensures { result ≡ passes_to part row row.count }
@@ -27,6 +28,7 @@ pub fn pass_test(part: Part, row: Row) -> bool
     pass
 }
 
+#[tactic(auto, unfolding(crate::specs::Step::passes_part))]
 fn passes_test(part: Part, s: State) -> bool
     ensures { result ≡ passes_part part s }
 {

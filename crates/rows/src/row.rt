@@ -11,6 +11,7 @@ pub struct Row {
 }
 
 // So many parts, each as at power-up.
+#[tactic(auto, unfolding(crate::specs::Row::empty_row))]
 pub fn power_up(count: usize) -> Row
     ensures { PoweredUp count result }
 {
@@ -22,6 +23,7 @@ pub fn power_up(count: usize) -> Row
     }
 }
 
+#[tactic(auto, unfolding(crate::specs::Row::with_state))]
 pub fn with_state(row: Row, i: usize, s: State) -> Row
     ensures { result ≡ with_state row i s }
 {
@@ -33,6 +35,7 @@ pub fn with_state(row: Row, i: usize, s: State) -> Row
 }
 
 // The row's own state at a place, or the one handed in where the row has none.
+#[tactic(auto, unfolding(crate::specs::Row::chosen_of))]
 pub fn chosen(row: Row, i: usize, s: State) -> State
     ensures { result ≡ chosen_of row i s }
 {

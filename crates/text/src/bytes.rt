@@ -3,6 +3,7 @@ ghost use Rattle.std.specs.Prelude.{◌+◌, ◌<◌, ◌≤◌, length, set, �
 ghost use Rattle.text.specs.Bytes.{put_text};
 
 // What comes back is the place after it.
+#[tactic(auto, using(std::proofs::lemmas::List::Edits::paste_more))]
 pub fn put_text(room: &mut [u8], at: usize, text: &[u8]) -> usize
     requires { at + length text.now ≤ length room.old }
     ensures { (result ≡ at + length text.now) × (room.new ≡ put_text room.old at text.now) }

@@ -14,6 +14,7 @@ pub fn put_decimal(room: &mut [u8], at: usize, value: u64) -> usize
     put_text(room, at, &digits[..count])
 }
 
+#[tactic(auto, unfolding(crate::specs::Digits::put_hex))]
 pub fn put_hex(room: &mut [u8], at: usize, byte: u8)
     requires { at + 2 ≤ length room.old }
     ensures { room.new ≡ put_hex room.old at byte }
