@@ -3,37 +3,34 @@
 #![tactic(auto)]
 
 use pins::trace::Record;
+use std::io;
 
-fn print_found(found: Record) {
+fn print_found(out: &impl Print, found: Record) -> io::Result<()> {
     match found {
         Record::Whole(word, unsettled) => {
-            io::print_hex(1, word as u64, 8);
-            print_mark(unsettled);
+            print!(out; "{word:08x}")?;
+            print_mark(out, unsettled)
         }
-        Record::Leftover => {
-            io::write_all(1, b"leftover\n");
-        }
-        Record::End => {
-            io::write_all(1, b"end\n");
-        }
+        Record::Leftover => println!(out; "leftover"),
+        Record::End => println!(out; "end"),
     }
 }
 
-fn print_mark(unsettled: bool) {
+fn print_mark(out: &impl Print, unsettled: bool) -> io::Result<()> {
     if unsettled {
-        io::write_all(1, b" unsettled\n");
+        println!(out; " unsettled")
     } else {
-        io::write_all(1, b"\n");
+        println!(out; "")
     }
 }
 
-fn print_three(trace: &[u8]) {
-    print_found(reader::record_of(trace, 0));
-    print_found(reader::record_of(trace, 1));
-    print_found(reader::record_of(trace, 2));
+fn print_three(out: &impl Print, trace: &[u8]) -> io::Result<()> {
+    print_found(out, reader::record_of(trace, 0))?;
+    print_found(out, reader::record_of(trace, 1))?;
+    print_found(out, reader::record_of(trace, 2))
 }
 
-fn main() {
-    print_three(b"\x00\x07\xe1\x2d\xa5\x00\x00\xff\x10\x20");
-    print_three(b"\x00\x07\xe1\x2d\xa5\x00\x00\xff");
+fn main(rt: HostRuntime) -> io::Result<()> {
+    print_three(&rt, b"\x00\x07\xe1\x2d\xa5\x00\x00\xff\x10\x20")?;
+    print_three(&rt, b"\x00\x07\xe1\x2d\xa5\x00\x00\xff")
 }
