@@ -2,9 +2,17 @@
 use super::{print, rows};
 use chip::state::State;
 use fifo::sample::{Outcome, Sampled};
+use std::io;
 
 // From power-up. The names stand in the order of the rows that are shown, each with an end of line.
-pub(crate) fn play(part: u32, fwft: bool, scene: &[u64], names: &[u8], memory: &mut [u32]) {
+pub(crate) fn play(
+    out: &impl Print,
+    part: u32,
+    fwft: bool,
+    scene: &[u64],
+    names: &[u8],
+    memory: &mut [u32],
+) -> io::Result<()> {
     let mut now = power_up();
     let mut words: u32 = 0;
     let mut name: usize = 0;
@@ -23,6 +31,7 @@ pub(crate) fn play(part: u32, fwft: bool, scene: &[u64], names: &[u8], memory: &
         words = rows::words_after(row, words, times);
         let outcome = now.outcome;
         name = print::print_row(
+            out,
             rows::part_of(row, part),
             fwft,
             row,
@@ -30,9 +39,10 @@ pub(crate) fn play(part: u32, fwft: bool, scene: &[u64], names: &[u8], memory: &
             names,
             name,
             outcome,
-        );
+        )?;
         left -= 1;
     }
+    Ok(())
 }
 
 fn power_up() -> Sampled {

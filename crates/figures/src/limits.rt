@@ -1,6 +1,7 @@
 // Bench figures, the part headed More: the flags at their limits, with offsets of 127. Both sides of a limit are shown, so
 // many words in memory and one more.
 use super::{bench, rows};
+use std::io;
 
 const LIMITS: [u64; 19] = [
     rows::RESET + rows::SHOWN,
@@ -30,22 +31,29 @@ const FULL: [u64; 3] = [
     rows::RUN_RCLK + 1000 + rows::SHOWN,
 ];
 
-pub(crate) fn print_limits(part: u32, fwft: bool, memory: &mut [u32]) {
+pub(crate) fn print_limits(
+    out: &impl Print,
+    part: u32,
+    fwft: bool,
+    memory: &mut [u32],
+) -> io::Result<()> {
     bench::play(
+        out,
         part,
         fwft,
         &LIMITS,
         b"reset\nhf\nhf\npaf\npaf\npae\npae\n",
         memory,
-    );
+    )
 }
 
-pub(crate) fn print_full(part: u32, memory: &mut [u32]) {
+pub(crate) fn print_full(out: &impl Print, part: u32, memory: &mut [u32]) -> io::Result<()> {
     bench::play(
+        out,
         part,
         false,
         &FULL,
         b"full-rclk-still\nfull-rclk-running\n",
         memory,
-    );
+    )
 }

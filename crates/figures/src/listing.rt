@@ -1,5 +1,6 @@
 // Bench figures, the listing.
 use super::{bench, rows};
+use std::io;
 
 const LISTED: u64 = rows::RAW + rows::SHOWN + 1;
 
@@ -23,13 +24,14 @@ const NAMED: [u64; 4] = [
     rows::READ + 1 + rows::SHOWN,
 ];
 
-pub(crate) fn print_listing(memory: &mut [u32]) {
+pub(crate) fn print_listing(out: &impl Print, memory: &mut [u32]) -> io::Result<()> {
     bench::play(
+        out,
         255,
         false,
         &LISTING,
         b"listing-0\nlisting-1\nlisting-2\nlisting-3\nlisting-4\nlisting-5\nlisting-6\nlisting-7\nlisting-8\n",
         memory,
-    );
-    bench::play(255, false, &NAMED, b"named\n", memory);
+    )?;
+    bench::play(out, 255, false, &NAMED, b"named\n", memory)
 }

@@ -12,27 +12,29 @@ mod traces;
 mod turned_away;
 mod width;
 
-fn main() {
+use std::io;
+
+fn main(rt: HostRuntime) -> io::Result<()> {
     let mut small = [0u32; 8192];
     let mut large = [0u32; 16384];
-    listing::print_listing(&mut small);
-    print_part(255, &mut small);
-    print_part(265, &mut large);
+    listing::print_listing(&rt, &mut small)?;
+    print_part(&rt, 255, &mut small)?;
+    print_part(&rt, 265, &mut large)
 }
 
-fn print_part(part: u32, memory: &mut [u32]) {
-    print_mode(part, false, memory);
-    print_mode(part, true, memory);
-    limits::print_full(part, memory);
-    turned_away::print_refusals(part, memory);
-    traces::print_runs(part, memory);
+fn print_part(out: &impl Print, part: u32, memory: &mut [u32]) -> io::Result<()> {
+    print_mode(out, part, false, memory)?;
+    print_mode(out, part, true, memory)?;
+    limits::print_full(out, part, memory)?;
+    turned_away::print_refusals(out, part, memory)?;
+    traces::print_runs(out, part, memory)
 }
 
-fn print_mode(part: u32, fwft: bool, memory: &mut [u32]) {
-    limits::print_limits(part, fwft, memory);
-    retransmits::print_retransmits(part, fwft, memory);
-    retransmits::print_falls(part, fwft, memory);
-    outputs::print_outputs(part, fwft, memory);
-    width::print_past_width(part, fwft, memory);
-    width::print_rounds(part, fwft, memory);
+fn print_mode(out: &impl Print, part: u32, fwft: bool, memory: &mut [u32]) -> io::Result<()> {
+    limits::print_limits(out, part, fwft, memory)?;
+    retransmits::print_retransmits(out, part, fwft, memory)?;
+    retransmits::print_falls(out, part, fwft, memory)?;
+    outputs::print_outputs(out, part, fwft, memory)?;
+    width::print_past_width(out, part, fwft, memory)?;
+    width::print_rounds(out, part, fwft, memory)
 }

@@ -1,5 +1,6 @@
 // Q: not driven, and showing an offset (Trace sample, Offsets).
 use super::{bench, rows};
+use std::io;
 
 // The word comes into the output register: in FWFT it falls through, in Standard it is read.
 const OUTPUTS: [u64; 11] = [
@@ -37,26 +38,34 @@ const SERIAL: [u64; 8] = [
     rows::READ_OFFSET + rows::SHOWN,
 ];
 
-pub(crate) fn print_outputs(part: u32, fwft: bool, memory: &mut [u32]) {
+pub(crate) fn print_outputs(
+    out: &impl Print,
+    part: u32,
+    fwft: bool,
+    memory: &mut [u32],
+) -> io::Result<()> {
     bench::play(
+        out,
         part,
         fwft,
         &OUTPUTS,
         b"word-on-q\noe-high\noe-low-again\noffset-n-on-q\noffset-m-on-q\nword-on-q-again\n",
         memory,
-    );
+    )?;
     bench::play(
+        out,
         part,
         fwft,
         &PARALLEL,
         b"offset-n-all-ones\noffset-m-bit-13\n",
         memory,
-    );
+    )?;
     bench::play(
+        out,
         part,
         fwft,
         &SERIAL,
         b"serial-n-one-bit-short\nserial-m-one-bit-short\nserial-n\nserial-m\n",
         memory,
-    );
+    )
 }

@@ -1,9 +1,11 @@
 // A figure's line: part, mode and name of the case, a blank, and the outcome.
 use super::rows;
 use fifo::sample::Outcome;
+use std::io;
 
 // The line of a row that is shown, by the name that begins at `from`; the place of the next name.
 pub(crate) fn print_row(
+    out: &impl Print,
     part: u32,
     fwft: bool,
     row: u64,
@@ -11,64 +13,71 @@ pub(crate) fn print_row(
     names: &[u8],
     from: usize,
     outcome: Outcome,
-) -> usize {
+) -> io::Result<usize> {
     if !rows::has(row, rows::SHOWN + rows::NUMBERED) {
-        return from;
+        return Ok(from);
     }
-    print_start(part, fwft);
-    let end = print_name(names, from);
+    print_start(out, part, fwft)?;
+    let end = print_name(out, names, from)?;
     if rows::has(row, rows::NUMBERED) {
-        print_text(b"-");
-        print_number(words);
+        out.write_all(b"-")?;
+        out.print(words)?;
     }
-    print_outcome(outcome);
-    end
+    print_outcome(out, outcome)?;
+    Ok(end)
 }
 
 // The records accepted, the index at which the run ended, and the refusal.
-pub(crate) fn print_run(part: u32, name: &[u8], accepted: usize, index: usize, refusal: u8) {
-    print_number(part);
-    print_text(name);
-    print_text(b" accepted ");
-    io::print_decimal(1, accepted as u64);
-    print_text(b" ended at ");
-    io::print_decimal(1, index as u64);
-    print_text(b" with ");
-    print_number(refusal as u32);
-    print_text(b"\n");
+pub(crate) fn print_run(
+    out: &impl Print,
+    part: u32,
+    name: &[u8],
+    accepted: usize,
+    index: usize,
+    refusal: u8,
+) -> io::Result<()> {
+    out.print(part)?;
+    out.write_all(name)?;
+    out.write_all(b" accepted ")?;
+    out.print(accepted)?;
+    out.write_all(b" ended at ")?;
+    out.print(index)?;
+    out.write_all(b" with ")?;
+    out.print(refusal)?;
+    out.write_all(b"\n")
 }
 
-fn print_start(part: u32, fwft: bool) {
-    print_number(part);
+fn print_start(out: &impl Print, part: u32, fwft: bool) -> io::Result<()> {
+    out.print(part)?;
     if fwft {
-        print_text(b"-fwft-");
+        out.write_all(b"-fwft-")
     } else {
-        print_text(b"-standard-");
+        out.write_all(b"-standard-")
     }
 }
 
 // Up to the end of its line.
-fn print_name(names: &[u8], from: usize) -> usize {
+fn print_name(out: &impl Print, names: &[u8], from: usize) -> io::Result<usize> {
     let mut at = from;
     while at < names.len() {
         let byte = names[at];
         at += 1;
         if byte == b'\n' {
-            return at;
+            return Ok(at);
         }
-        print_text(&[byte]);
+        out.write_all(&[byte])?;
     }
-    at
+    Ok(at)
 }
 
-fn print_outcome(outcome: Outcome) {
+fn print_outcome(out: &impl Print, outcome: Outcome) -> io::Result<()> {
     match outcome {
-        Outcome::Taken(answer) => print_answer(answer),
-        Outcome::Refused(number) => print_refusal(number),
+        Outcome::Taken(answer) => print_answer(out, answer),
+        Outcome::Refused(number) => print_refusal(out, number),
     }
 }
 
-fn print_answer(answer: u32) {
+fn print_answer(out: &impl Print, answer: u32) -> io::Result<()> {
     let line = [
         b' ',
         digit(answer >> 20),
@@ -79,21 +88,13 @@ fn print_answer(answer: u32) {
         digit(answer),
         b'\n',
     ];
-    print_text(&line);
+    out.write_all(&line)
 }
 
-fn print_refusal(number: u8) {
-    print_text(b" refused ");
-    print_number(number as u32);
-    print_text(b"\n");
-}
-
-fn print_text(text: &[u8]) {
-    io::write_all(1, text);
-}
-
-fn print_number(number: u32) {
-    io::print_decimal(1, number as u64);
+fn print_refusal(out: &impl Print, number: u8) -> io::Result<()> {
+    out.write_all(b" refused ")?;
+    out.print(number)?;
+    out.write_all(b"\n")
 }
 
 fn digit(x: u32) -> u8 {

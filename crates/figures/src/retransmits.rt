@@ -1,5 +1,6 @@
 // Retransmit, and how many words it may follow (What is turned away, 9).
 use super::{bench, rows};
+use std::io;
 
 const MOST: [u64; 15] = [
     rows::RESET,
@@ -89,43 +90,58 @@ const IN_RESET: [u64; 20] = [
     rows::RETRANSMIT + rows::SHOWN,
 ];
 
-pub(crate) fn print_retransmits(part: u32, fwft: bool, memory: &mut [u32]) {
+pub(crate) fn print_retransmits(
+    out: &impl Print,
+    part: u32,
+    fwft: bool,
+    memory: &mut [u32],
+) -> io::Result<()> {
     bench::play(
+        out,
         part,
         fwft,
         &MOST,
         b"retransmit\nretransmit\nretransmit\nretransmit\n",
         memory,
-    );
+    )?;
     bench::play(
+        out,
         part,
         fwft,
         &WAITING,
         b"three-read\nrises-after-retransmit-0\nrises-after-retransmit-1\nrises-after-retransmit-2\nrises-after-retransmit-3\nread-again\n",
         memory,
-    );
+    )
 }
 
-pub(crate) fn print_falls(part: u32, fwft: bool, memory: &mut [u32]) {
+pub(crate) fn print_falls(
+    out: &impl Print,
+    part: u32,
+    fwft: bool,
+    memory: &mut [u32],
+) -> io::Result<()> {
     bench::play(
+        out,
         part,
         fwft,
         &AFTER_ENABLE,
         b"fall-after-write\nfall-not-ended\nfall-later\nfall-after-read\nfall-later-again\nword-after-fall\n",
         memory,
-    );
+    )?;
     bench::play(
+        out,
         part,
         fwft,
         &AT_FALL,
         b"fall-with-read-enable\nwrite-after-fall\nwrite-between\nretransmit-after-write-between\n",
         memory,
-    );
+    )?;
     bench::play(
+        out,
         part,
         fwft,
         &IN_RESET,
         b"fall-in-master-reset\nfall-in-partial-reset\nfall-before-partial-reset\nfall-before-master-reset\n",
         memory,
-    );
+    )
 }

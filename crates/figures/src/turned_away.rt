@@ -1,6 +1,7 @@
 // What is turned away: a sample for each number that one can get, and the answer to the next one. No LOW sample comes in between: the
 // refused one must not have moved RCLK's last level either.
 use super::{bench, rows};
+use std::io;
 
 const WORD: u64 = rows::PUT + 0x41 * rows::PIN;
 
@@ -111,59 +112,65 @@ const NO_WORD_ASKED: [u64; 10] = [
     rows::ZERO + rows::UNSETTLED + 1 + rows::SHOWN,
 ];
 
-pub(crate) fn print_refusals(part: u32, memory: &mut [u32]) {
-    print_calls(part, memory);
-    print_pins(part, memory);
-    print_unsettled(part, memory);
+pub(crate) fn print_refusals(out: &impl Print, part: u32, memory: &mut [u32]) -> io::Result<()> {
+    print_calls(out, part, memory)?;
+    print_pins(out, part, memory)?;
+    print_unsettled(out, part, memory)
 }
 
-fn print_calls(part: u32, memory: &mut [u32]) {
+fn print_calls(out: &impl Print, part: u32, memory: &mut [u32]) -> io::Result<()> {
     bench::play(
+        out,
         part,
         false,
         &BY_CALL,
         b"refusal-1\nnext-after-refusal-1\nrefusal-2\nnext-after-refusal-2\nrefusal-3\nnext-after-refusal-3\n",
         memory,
-    );
+    )?;
     bench::play(
+        out,
         part,
         false,
         &NO_RESET,
         b"refusal-5\nnext-after-refusal-5\n",
         memory,
-    );
+    )
 }
 
-fn print_pins(part: u32, memory: &mut [u32]) {
+fn print_pins(out: &impl Print, part: u32, memory: &mut [u32]) -> io::Result<()> {
     bench::play(
+        out,
         part,
         false,
         &BY_PINS,
         b"refusal-6\nnext-after-refusal-6\nrefusal-7\nnext-after-refusal-7\nrefusal-8\nnext-after-refusal-8\nrefusal-9\nnext-after-refusal-9\n",
         memory,
-    );
+    )?;
     bench::play(
+        out,
         part,
         false,
         &NOT_SEEN,
         b"refusal-10\nnext-after-refusal-10\nwrite-after-seen\n",
         memory,
-    );
+    )
 }
 
-fn print_unsettled(part: u32, memory: &mut [u32]) {
+fn print_unsettled(out: &impl Print, part: u32, memory: &mut [u32]) -> io::Result<()> {
     bench::play(
+        out,
         part,
         false,
         &UNKNOWN_WORD,
         b"refusal-12\nnext-after-refusal-12\nunsettled-while-full\nunsettled-load\noffset-after-unsettled-load\nunsettled-before-seen\nunsettled-once-seen\n",
         memory,
-    );
+    )?;
     bench::play(
+        out,
         part,
         false,
         &NO_WORD_ASKED,
         b"unsettled-before-reset\nunsettled-in-master-reset\nunsettled-in-partial-reset\nunsettled-not-asked\nunsettled-no-rise\nunsettled-read\nunsettled-serial-bit\n",
         memory,
-    );
+    )
 }

@@ -1,5 +1,6 @@
 // The two sides: counts that pass the largest number of their width, and no answer changes for it.
 use super::{bench, rows};
+use std::io;
 
 // At half of the depth, so that HF goes LOW with one word more. Words that are a width apart look the same.
 const HALF_FULL: [u64; 10] = [
@@ -70,36 +71,50 @@ const ROUND_FULL: [u64; 22] = [
     rows::RUN_WCLK + 2 + rows::SHOWN,
 ];
 
-pub(crate) fn print_past_width(part: u32, fwft: bool, memory: &mut [u32]) {
+pub(crate) fn print_past_width(
+    out: &impl Print,
+    part: u32,
+    fwft: bool,
+    memory: &mut [u32],
+) -> io::Result<()> {
     bench::play(
+        out,
         part,
         fwft,
         &HALF_FULL,
         b"turns-1000\nturns-66536\none-word-more\nretransmit-past-width\n",
         memory,
-    );
+    )
 }
 
-pub(crate) fn print_rounds(part: u32, fwft: bool, memory: &mut [u32]) {
+pub(crate) fn print_rounds(
+    out: &impl Print,
+    part: u32,
+    fwft: bool,
+    memory: &mut [u32],
+) -> io::Result<()> {
     bench::play(
+        out,
         part,
         fwft,
         &ROUND_EMPTY,
         b"round-no-word\nround-one-word\nround-two-words\nround-one-left\nround-none-left\n",
         memory,
-    );
+    )?;
     bench::play(
+        out,
         part,
         fwft,
         &ROUND_HALF,
         b"round-half\nround-half-and-one\nround-half-again\n",
         memory,
-    );
+    )?;
     bench::play(
+        out,
         part,
         fwft,
         &ROUND_FULL,
         b"round-three-short\nround-two-short\nround-full\nround-full-and-read\nround-first-rise\nround-second-rise\nround-three-short-again\nround-full-again\nround-first-rise-again\nround-second-rise-again\nround-three-short-at-last\n",
         memory,
-    );
+    )
 }

@@ -10,34 +10,36 @@ ghost use Rattle.offsets.specs.Registers.{defaults};
 ghost use Rattle.std.specs.Prelude.{◌≡◌};
 
 use counts::part::Part;
+use std::io;
 use views::tables::{Limits, Row, Table};
 
-fn main() {
-    print_table(Table::One, false);
-    print_table(Table::One, true);
-    print_table(Table::Two, false);
-    print_table(Table::Two, true);
+fn main(rt: HostRuntime) -> io::Result<()> {
+    print_table(&rt, Table::One, false)?;
+    print_table(&rt, Table::One, true)?;
+    print_table(&rt, Table::Two, false)?;
+    print_table(&rt, Table::Two, true)
 }
 
 // `ld` is the level of LD in the Master Reset.
-fn print_table(table: Table, ld: bool) {
+fn print_table(out: &impl Print, table: Table, ld: bool) -> io::Result<()> {
     let offsets = offsets::registers::reset_offsets(ld);
-    print_title(table);
-    print_text(b", n = ");
-    print_number(offsets.n as u32);
-    print_text(b", m = ");
-    print_number(offsets.m as u32);
-    print_text(b"\n\n| 72V255LA | 72V265LA | PAF | HF | PAE |\n|---|---|---|---|---|\n");
+    print_title(out, table)?;
+    out.write_all(b", n = ")?;
+    print_number(out, offsets.n as u32)?;
+    out.write_all(b", m = ")?;
+    print_number(out, offsets.m as u32)?;
+    out.write_all(b"\n\n| 72V255LA | 72V265LA | PAF | HF | PAE |\n|---|---|---|---|---|\n")?;
     print_rows(
+        out,
         limits_by(table, Part::Idt72V255LA, ld),
         limits_by(table, Part::Idt72V265LA, ld),
-    );
+    )
 }
 
-fn print_title(table: Table) {
+fn print_title(out: &impl Print, table: Table) -> io::Result<()> {
     match table {
-        Table::One => print_text(b"\n### Table 1, IDT Standard mode"),
-        Table::Two => print_text(b"\n### Table 2, FWFT mode"),
+        Table::One => out.write_all(b"\n### Table 1, IDT Standard mode"),
+        Table::Two => out.write_all(b"\n### Table 2, FWFT mode"),
     }
 }
 
@@ -49,59 +51,55 @@ fn limits_by(table: Table, part: Part, ld: bool) -> Limits
     views::tables::limits_of(beyond, counts::part::depth(part), offsets.n, offsets.m)
 }
 
-fn print_rows(small: Limits, large: Limits) {
-    print_row(small, large, Row::Empty);
-    print_row(small, large, Row::AlmostEmpty);
-    print_row(small, large, Row::ToHalf);
-    print_row(small, large, Row::AboveHalf);
-    print_row(small, large, Row::AlmostFull);
-    print_row(small, large, Row::Full);
+fn print_rows(out: &impl Print, small: Limits, large: Limits) -> io::Result<()> {
+    print_row(out, small, large, Row::Empty)?;
+    print_row(out, small, large, Row::AlmostEmpty)?;
+    print_row(out, small, large, Row::ToHalf)?;
+    print_row(out, small, large, Row::AboveHalf)?;
+    print_row(out, small, large, Row::AlmostFull)?;
+    print_row(out, small, large, Row::Full)
 }
 
-fn print_row(small: Limits, large: Limits, row: Row) {
-    print_counts(small, row);
-    print_counts(large, row);
-    print_level(views::tables::paf_level(row));
-    print_level(views::tables::hf_level(row));
-    print_level(views::tables::pae_level(row));
-    print_text(b"|\n");
+fn print_row(out: &impl Print, small: Limits, large: Limits, row: Row) -> io::Result<()> {
+    print_counts(out, small, row)?;
+    print_counts(out, large, row)?;
+    print_level(out, views::tables::paf_level(row))?;
+    print_level(out, views::tables::hf_level(row))?;
+    print_level(out, views::tables::pae_level(row))?;
+    out.write_all(b"|\n")
 }
 
-fn print_counts(limits: Limits, row: Row) {
+fn print_counts(out: &impl Print, limits: Limits, row: Row) -> io::Result<()> {
     let first = bounds::first_of(limits, row);
     let last = bounds::last_of(limits, row);
-    print_text(b"| ");
-    print_number(first);
+    out.write_all(b"| ")?;
+    print_number(out, first)?;
     if first < last {
-        print_text(b" to ");
-        print_number(last);
+        out.write_all(b" to ")?;
+        print_number(out, last)?;
     }
-    print_text(b" ");
+    out.write_all(b" ")
 }
 
-fn print_level(level: bool) {
+fn print_level(out: &impl Print, level: bool) -> io::Result<()> {
     if level {
-        print_text(b"| H ");
+        out.write_all(b"| H ")
     } else {
-        print_text(b"| L ");
+        out.write_all(b"| L ")
     }
 }
 
 // With the thousands apart, as the sheet prints them; below a million.
-fn print_number(number: u32) {
+fn print_number(out: &impl Print, number: u32) -> io::Result<()> {
     if number < 1000 {
-        io::print_decimal(1, number as u64);
+        out.print(number)
     } else {
-        io::print_decimal(1, (number / 1000) as u64);
+        out.print(number / 1000)?;
         let digits = [b',', digit(number / 100), digit(number / 10), digit(number)];
-        print_text(&digits);
+        out.write_all(&digits)
     }
 }
 
 fn digit(number: u32) -> u8 {
     b'0' + (number % 10) as u8
-}
-
-fn print_text(text: &[u8]) {
-    io::write_all(1, text);
 }

@@ -8,12 +8,12 @@ use Rattle.halves.specs.declared.state.Halves.{Halves}
 use Rattle.pair.specs.Sample.{After, Gives, Samples, Steps, number_of, pair_sample_refusal, pair_sampled}
 use Rattle.halves.specs.Two.{Two, two}
 
-gives_unique : {expected : After} {a b : Sampled} {m n : Two (List ℕ)} → Gives expected a m → Gives expected b n → (a ≡ b) × (m ≡ n)
+pub gives_unique : {expected : After} {a b : Sampled} {m n : Two (List ℕ)} → Gives expected a m → Gives expected b n → (a ≡ b) × (m ≡ n)
 gives_unique f g = (f.result ∙ sym g.result, f.words ∙ sym g.words)
 
 pub sample_unique : (number : ℕ) (x : Two ℕ) (h : Halves) (memory : Two (List ℕ)) (a b : Sampled) (m n : Two (List ℕ))
     → Samples number x h memory a m → Samples number x h memory b n → (a ≡ b) × (m ≡ n)
-sample_unique number x h memory a b m n f g = gives_unique f.gives g.gives
+sample_unique number x h memory a b m n f g = (f.gives.result ∙ sym g.gives.result, f.gives.words ∙ sym g.gives.words)
 
 -- and it is what the definitions say of these very records, halves and memories
 pub sample_told : (number : ℕ) (x : Two ℕ) (h : Halves) (memory : Two (List ℕ)) (r : Sampled) (after : Two (List ℕ)) → Samples number x h memory r after
@@ -23,4 +23,4 @@ sample_told number x h memory r after s = (s.refusal, s.gives.result, s.gives.wo
 
 pub step_unique : (part : Part) (x : Two ℕ) (h : Halves) (memory : Two (List ℕ)) (a b : Sampled) (m n : Two (List ℕ))
     → Steps part x h memory a m → Steps part x h memory b n → (a ≡ b) × (m ≡ n)
-step_unique part x h memory a b m n f g = gives_unique f.gives g.gives
+step_unique part x h memory a b m n f g = (f.gives.result ∙ sym g.gives.result, f.gives.words ∙ sym g.gives.words)

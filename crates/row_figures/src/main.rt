@@ -4,6 +4,7 @@
 
 use chip::state::State;
 use rows::row::Row;
+use std::io;
 
 // Master Reset into fall-through; a rise of WCLK with WEN LOW; the same, D still moving; RT LOW; MRS LOW with FWFT/SI LOW; a rise of the transfer clock.
 const RESET: [u8; 7] = [0x4F, 0xC0, 0x00, 0x00, 0x00, 0xFF, 0xFF];
@@ -20,65 +21,67 @@ const TRANSFER: [u8; 7] = [0xCF, 0xC0, 0x00, 0x00, 0x80, 0xFF, 0xFF];
 
 const SPARE: [u8; 7] = [0xCF, 0xC0, 0x00, 0x00, 0x40, 0xFF, 0xFF];
 
-fn main() {
+fn main(rt: HostRuntime) -> io::Result<()> {
     let mut memory = [0u32; 16384];
     let powered = rows::row::power_up(2);
     let sampled = chain_runs::sample::sample(255, &RESET, powered, &mut memory);
     let reset = chain_runs::sample::row_of(sampled);
     let mut own = [0u32; 8192];
-    print_early(reset, standard(&mut own));
-    print_records(powered, reset);
-    print_unseen(reset, unseen(&mut own), ready(&mut own));
+    print_early(&rt, reset, standard(&mut own))?;
+    print_records(&rt, powered, reset)?;
+    print_unseen(&rt, reset, unseen(&mut own), ready(&mut own))
 }
 
 // Before any record: 1, 13, 2 and 3; and 4 for another length.
-fn print_early(row: Row, standard: State) {
-    print(b"taken", 255, &WRITE, row);
-    print(b"part", 256, &WRITE, row);
-    print(b"few", 255, &WRITE, counted(row, 1));
-    print(b"many", 255, &WRITE, counted(row, 9));
-    print(b"memory", 265, &WRITE, row);
+fn print_early(out: &impl Print, row: Row, standard: State) -> io::Result<()> {
+    print(out, b"taken", 255, &WRITE, row)?;
+    print(out, b"part", 256, &WRITE, row)?;
+    print(out, b"few", 255, &WRITE, counted(row, 1))?;
+    print(out, b"many", 255, &WRITE, counted(row, 9))?;
+    print(out, b"memory", 265, &WRITE, row)?;
     print(
+        out,
         b"output",
         255,
         &WRITE,
         with_first(row, wide_output(row.states[0])),
-    );
-    print(b"standard", 255, &WRITE, with_second(row, standard));
-    print(b"length", 255, &WRITE[..6], row);
+    )?;
+    print(out, b"standard", 255, &WRITE, with_second(row, standard))?;
+    print(out, b"length", 255, &WRITE[..6], row)
 }
 
-fn print_records(powered: Row, row: Row) {
-    print(b"spare", 255, &SPARE, row);
-    print(b"unstarted", 255, &WRITE, powered);
+fn print_records(out: &impl Print, powered: Row, row: Row) -> io::Result<()> {
+    print(out, b"spare", 255, &SPARE, row)?;
+    print(out, b"unstarted", 255, &WRITE, powered)?;
     print(
+        out,
         b"half-started",
         255,
         &RETRANSMIT,
         with_second(row, powered.states[0]),
-    );
-    print(b"retransmit", 255, &RETRANSMIT, row);
-    print(b"into-standard", 255, &STANDARD, row);
-    print(b"unsettled", 255, &MOVING, row);
+    )?;
+    print(out, b"retransmit", 255, &RETRANSMIT, row)?;
+    print(out, b"into-standard", 255, &STANDARD, row)?;
+    print(out, b"unsettled", 255, &MOVING, row)
 }
 
 // 10: a write asked of a part that has not seen its retransmit, by a transfer to the second part and by the record to the first, where 12 would come
 // after it.
-fn print_unseen(row: Row, unseen: State, ready: State) {
+fn print_unseen(out: &impl Print, row: Row, unseen: State, ready: State) -> io::Result<()> {
     let second = with_first(with_second(row, unseen), ready);
     let first = with_first(row, unseen);
-    print(b"unseen", 255, &TRANSFER, second);
-    print(b"unseen-first", 255, &MOVING, first);
+    print(out, b"unseen", 255, &TRANSFER, second)?;
+    print(out, b"unseen-first", 255, &MOVING, first)
 }
 
-fn print(name: &[u8], part: u32, record: &[u8], row: Row) {
+fn print(out: &impl Print, name: &[u8], part: u32, record: &[u8], row: Row) -> io::Result<()> {
     let mut memory = [0u32; 16384];
     let worked = chain_runs::sample::sample(part, record, row, &mut memory);
     let outcome = chain_runs::sample::outcome_of(worked);
     let number = fifo::outcome::number_of(outcome);
     let digits = [b' ', b'0' + number / 10 % 10, b'0' + number % 10, b'\n'];
-    io::write_all(libc::STDOUT_FILENO, name);
-    io::write_all(libc::STDOUT_FILENO, &digits);
+    out.write_all(name)?;
+    out.write_all(&digits)
 }
 
 fn counted(row: Row, count: usize) -> Row {

@@ -6,6 +6,7 @@ use lines::records::Layout;
 use lines::tally::Tally;
 use lines::{records, tally};
 use runs::run::Ran;
+use std::io::Read;
 
 const CHUNK: usize = RECORDS * 4;
 
@@ -16,13 +17,26 @@ struct Progress {
     tally: Tally,
 }
 
-pub(crate) fn work_all(lenient: bool, part: u32, memory: &mut [u32]) {
+pub(crate) fn work_all<R: Read>(
+    input: &mut R,
+    out: &impl Print,
+    lenient: bool,
+    part: u32,
+    memory: &mut [u32],
+) {
     let mut room = [0u8; RECORDS * records::LONGEST];
-    let tally = work_chunks(lenient, part, memory, &mut room);
-    records::print_end(tally);
+    let tally = work_chunks(input, out, lenient, part, memory, &mut room);
+    records::print_end(out, tally);
 }
 
-fn work_chunks(lenient: bool, part: u32, memory: &mut [u32], room: &mut [u8]) -> Tally {
+fn work_chunks<R: Read>(
+    input: &mut R,
+    out: &impl Print,
+    lenient: bool,
+    part: u32,
+    memory: &mut [u32],
+    room: &mut [u8],
+) -> Tally {
     let mut progress = Progress {
         state: chip::reset::power_up(),
         tally: tally::start(),
@@ -31,7 +45,7 @@ fn work_chunks(lenient: bool, part: u32, memory: &mut [u32], room: &mut [u8]) ->
     let mut left = u64::MAX;
     while left > 0 {
         left -= 1;
-        progress = work_chunk(lenient, part, progress, memory, room);
+        progress = work_chunk(input, out, lenient, part, progress, memory, room);
         if progress.tally.over {
             return progress.tally;
         }
@@ -39,7 +53,9 @@ fn work_chunks(lenient: bool, part: u32, memory: &mut [u32], room: &mut [u8]) ->
     progress.tally
 }
 
-fn work_chunk(
+fn work_chunk<R: Read>(
+    input: &mut R,
+    out: &impl Print,
     lenient: bool,
     part: u32,
     before: Progress,
@@ -47,7 +63,7 @@ fn work_chunk(
     room: &mut [u8],
 ) -> Progress {
     let mut trace = [0u8; CHUNK];
-    let came = chunks::read(&mut trace);
+    let came = chunks::read(input, &mut trace);
     let mut answers = [0u8; RECORDS * 3];
     // A strict run leaves them at 0: each record before its end has an answer.
     let mut marks = [0u8; RECORDS];
@@ -63,6 +79,7 @@ fn work_chunk(
     );
     let tally = before.tally;
     let printed = records::print_records(
+        out,
         room,
         tally.records,
         Layout::Answer,

@@ -7,6 +7,7 @@ use lines::records::Layout;
 use lines::tally::Tally;
 use lines::{records, tally};
 use pair_work::work::Ran;
+use std::io::Read;
 
 const CHUNK: usize = RECORDS * 8;
 
@@ -17,13 +18,22 @@ struct Progress {
     tally: Tally,
 }
 
-pub(crate) fn work_all(lenient: bool, part: u32, left: &mut [u32], right: &mut [u32]) {
+pub(crate) fn work_all<R: Read>(
+    input: &mut R,
+    out: &impl Print,
+    lenient: bool,
+    part: u32,
+    left: &mut [u32],
+    right: &mut [u32],
+) {
     let mut room = [0u8; RECORDS * records::LONGEST];
-    let tally = work_chunks(lenient, part, left, right, &mut room);
-    records::print_end(tally);
+    let tally = work_chunks(input, out, lenient, part, left, right, &mut room);
+    records::print_end(out, tally);
 }
 
-fn work_chunks(
+fn work_chunks<R: Read>(
+    input: &mut R,
+    out: &impl Print,
     lenient: bool,
     part: u32,
     left: &mut [u32],
@@ -38,7 +48,7 @@ fn work_chunks(
     let mut more = u64::MAX;
     while more > 0 {
         more -= 1;
-        progress = work_chunk(lenient, part, progress, left, right, room);
+        progress = work_chunk(input, out, lenient, part, progress, left, right, room);
         if progress.tally.over {
             return progress.tally;
         }
@@ -46,7 +56,9 @@ fn work_chunks(
     progress.tally
 }
 
-fn work_chunk(
+fn work_chunk<R: Read>(
+    input: &mut R,
+    out: &impl Print,
     lenient: bool,
     part: u32,
     before: Progress,
@@ -55,7 +67,7 @@ fn work_chunk(
     room: &mut [u8],
 ) -> Progress {
     let mut trace = [0u8; CHUNK];
-    let came = chunks::read(&mut trace);
+    let came = chunks::read(input, &mut trace);
     let mut answers = [0u8; RECORDS * 6];
     // A strict run leaves them at 0: each sample before its end has an answer.
     let mut marks = [0u8; RECORDS];
@@ -72,6 +84,7 @@ fn work_chunk(
     );
     let tally = before.tally;
     let printed = print(
+        out,
         room,
         tally.records,
         state,
@@ -101,6 +114,7 @@ fn run(
 }
 
 fn print(
+    out: &impl Print,
     room: &mut [u8],
     base: u64,
     before: Halves,
@@ -112,7 +126,7 @@ fn print(
     let mut flags = [0u8; RECORDS * 2];
     composites::note_all(before, trace, answers, marks, &mut flags, samples);
     let layout = Layout::FlagsAndTwoAnswers;
-    records::print_records(room, base, layout, &flags, answers, marks, samples)
+    records::print_records(out, room, base, layout, &flags, answers, marks, samples)
 }
 
 fn move_on(before: Tally, ran: Ran, came: usize, printed: bool) -> Progress {

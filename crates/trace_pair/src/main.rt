@@ -7,20 +7,28 @@ mod composites;
 
 use input::manner::Manner;
 
-fn main() {
-    let asked = input::manner::asked();
+fn main(rt: HostRuntime) {
+    let asked = input::manner::asked(&rt);
     match asked {
-        Manner::Strict => trace(false),
-        Manner::Lenient => trace(true),
-        Manner::Unknown => input::manner::complain(b"trace_pair"),
+        Manner::Strict => trace(&rt, false),
+        Manner::Lenient => trace(&rt, true),
+        Manner::Unknown => input::manner::complain(&mut rt.stderr(), b"trace_pair"),
     }
 }
 
 // The run itself turns an unknown part away, whatever memories it is lent.
-fn trace(lenient: bool) {
-    let number = input::header::read_part_number();
+fn trace(rt: &HostRuntime, lenient: bool) {
+    let mut stdin = rt.stdin();
+    let number = input::header::read_part_number(&mut stdin);
     let words = input::memory::words(number);
     let mut left = [0u32; input::memory::MOST];
     let mut right = [0u32; input::memory::MOST];
-    chunks::work_all(lenient, number, &mut left[..words], &mut right[..words]);
+    chunks::work_all(
+        &mut stdin,
+        rt,
+        lenient,
+        number,
+        &mut left[..words],
+        &mut right[..words],
+    );
 }
