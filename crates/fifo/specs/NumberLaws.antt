@@ -3,7 +3,7 @@
 use Rattle.std.specs.Prelude.{ℕ, Bool, true, false, cond, List, ◌≢◌, ◌≡◌, eqb, length}
 use Rattle.std.proofs.Math.Path.{refl}
 use Rattle.std.proofs.Common.{sym, ◌∙◌}
-use borrow.Author.Tests.{eq-eqb, eqb-true, ne_eqb}
+use borrow.Author.Tests.{eqb-true, ne_eqb}
 use Rattle.chip.specs.declared.advance.Advanced.{Advanced}
 use Rattle.chip.specs.declared.state.State.{State}
 use Rattle.chip.specs.Advance.{advanced}
@@ -39,7 +39,8 @@ pub not_deep : (part : Part) (words : ℕ) → words ≢ words_in part → is_de
 not_deep part words n = ne_eqb words (depth_of part) (λ e. n (e ∙ sym (same_depth part)))
 
 pub deep : (part : Part) (words : ℕ) → words ≡ words_in part → is_depth part words ≡ true
-deep part words whole = eq-eqb words (depth_of part) (whole ∙ same_depth part)
+deep Idt72V255LA words whole = rw whole refl
+deep Idt72V265LA words whole = rw whole refl
 
 -- in any state, whether or not it passes 3, as a run may reach it
 pub by_pins : (part : Part) (x : ℕ) (s : State) → record_refusal part x s ≡ refusal_of part (pins_of x) s
@@ -54,7 +55,7 @@ module _ (x : ℕ) (s : State) (words : ℕ) where
   module _ (part : Part) where
     pub two_comes : words ≢ words_in part → sample_refusal (asked_by part) x s words ≡ 2
     unfolding sample_refusal
-    two_comes n = simp (known part, not_deep part words n)
+    two_comes n = simp (known part, ne_eqb words (depth_of part) (λ e. n (e ∙ sym (same_depth part))))
 
     module _ (whole : words ≡ words_in part) where
       pub three_comes : passes part s ≡ false → sample_refusal (asked_by part) x s words ≡ 3
@@ -92,17 +93,20 @@ module _ (s : State) (memory : List ℕ) where
     unfolding stepped taken
     step_numbered part = by_refusal (eqb (record_refusal part x s) 0) (record_refusal part x s) (advanced part (pins_of x) (fetched_for part s memory) s) refl
 
-    by_part_lem : (looked : Lookup)
+    by_part_lem : ((part : Part) → Numbered (record_refusal part x s) (stepped part x s memory) s memory) → (looked : Lookup)
         → Numbered (by_part looked (λ part. cond (is_depth part (length memory)) (cond (passes part s) (record_refusal part x s) 3) 2) 1)
         (by_part looked
         (λ part. cond (is_depth part (length memory)) (cond (passes part s) (stepped part x s memory) (turned_away 3 s memory)) (turned_away 2 s memory))
         (turned_away 1 s memory)) s memory
-    by_part_lem (Known part) = by_tests (is_depth part (length memory)) (passes part s) (step_numbered part)
-    by_part_lem Unknown = turned 1 refl
+    by_part_lem steps (Known part) = by_tests (is_depth part (length memory)) (passes part s) (steps part)
+    by_part_lem steps Unknown = turned 1 refl
 
     pub sample_numbered : (number : ℕ) → Numbered (sample_refusal number x s (length memory)) (sampled number x s memory) s memory
-    unfolding sampled sample_refusal
-    sample_numbered number = by_part_lem (part_of number)
+    unfolding sampled sample_refusal stepped taken
+    sample_numbered number =
+        by_part_lem
+        (λ part. by_refusal (eqb (record_refusal part x s) 0) (record_refusal part x s) (advanced part (pins_of x) (fetched_for part s memory) s) refl)
+        (part_of number)
 
 -- a refused sample writes no answer
 pub none_written : (number index : ℕ) (room : List ℕ) → answers_after (Refused number) index room ≡ room

@@ -68,9 +68,6 @@ going lenient part bytes start e z = record {
 }
 
 module _ {lenient : Bool} {part : Part} {bytes : List ℕ} {start g : Progress} {index : ℕ} (inv : Going lenient part bytes start g index) where
-  pub words_kept : (length g.memory.left ≡ length start.memory.left) × (length g.memory.right ≡ length start.memory.right)
-  words_kept = (ap (λ (l : Two ℕ). l.left) inv.turns.words, ap (λ (l : Two ℕ). l.right) inv.turns.words)
-
   module _ {r : Sample} (f : r ≡ sample_at bytes index) where
     pub ended_now : {number : ℕ} → is_whole r ≡ false → number ≡ samples.number_of r
         → Ends ran_of (worked lenient part bytes start) (record { state = g.state; accepted = g.accepted; index = index; refusal = number })

@@ -20,7 +20,7 @@ reset_taken part p s f e = simp (f, e)
 -- with a Master Reset before, a sample is taken where no row from 6 on holds
 no_row : (part : Part) (p : Pins) (s : State) → s.started ≡ true → from_six part p s ≡ 0 → refusal_of part p s ≡ 0
 unfolding refusal_of
-no_row part p s started none = simp (started, none) (either (λ (k : ℕ). k ≡ 0) (p.mrs && p.prs) 0 0 refl refl)
+no_row part p s started none = simp (started, none) (either (λ (k : ℕ). k ≡ 0) _ 0 0 refl refl)
 
 none_at_rest : (part : Part) (p : Pins) (s : State) → NoRise p s → from_six part p s ≡ 0
 unfolding refuses_six refuses_seven refuses_eight refuses_nine refuses_ten refuses_twelve retransmits

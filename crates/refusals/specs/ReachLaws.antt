@@ -1,7 +1,7 @@
 -- What is turned away, 3: a state that samples lead to from power-up passes its test, for it holds true counts.
 use Rattle.std.specs.Prelude.{ℕ, ◌+◌, ◌-◌, ◌%◌, ◌≤◌, Bool, true, false, cond, ◌&&◌, ◌≡◌, leb}
 use Rattle.std.proofs.Math.Path.{refl}
-use Rattle.std.proofs.Common.{le-leb, arith}
+use Rattle.std.proofs.Common.{le-leb, sym, arith}
 use Rattle.counts.specs.declared.part.Part.{Part}
 use Rattle.counts.specs.Part.{depth_of}
 use Rattle.counts.specs.Round.{behind, less, width}
@@ -13,15 +13,18 @@ use Rattle.sides.specs.declared.read.Mode.{Mode}
 use Rattle.sides.specs.declared.read.Mode.TheVariants.{Standard, Fwft}
 use Rattle.sides.specs.CountLaws.{tracks_on}
 use Rattle.sides.specs.DecisionLaws.{left_behind}
-use Rattle.sides.specs.Tracks.{Tracks, Owes, true_after}
+use Rattle.sides.specs.Tracks.{Allowed, Tracks, Owes, true_after}
 use Rattle.views.specs.OrderLaws.{ordered_reset}
 use Rattle.views.specs.TrueCounts.{TrueCounts, no_counts}
 use Rattle.chip.specs.declared.enables.Enables.{Enables}
 use Rattle.chip.specs.declared.state.State.{State}
 use Rattle.chip.specs.Advance.{advanced, running, state_after}
 use Rattle.chip.specs.HalfLaws.{held_exact}
-use Rattle.refusals.specs.Refuse.{refusal_of}
-use Rattle.refusals.specs.RefusalLaws.{allowed}
+use Rattle.chip.specs.Tells.{both, high, low, three, write_rise}
+use Rattle.refusals.specs.Refuse.{asks_unselected, refusal_of, refuses_eight, refuses_seven, refuses_six, refuses_twelve}
+use Rattle.refusals.specs.RefusalLaws.{allowed_by}
+use Rattle.refusals.specs.RowLaws.{first_by, tells_eight, tells_seven, tells_six}
+use Rattle.refusals.specs.Rows.{FirstRow}
 use Rattle.chip.specs.Reset.{cleared, master_reset, partial_reset, powered_up}
 use Rattle.chip.specs.ResetLaws.{power_up_passes}
 use Rattle.chip.specs.State.{in_reach, passes, widths, words_held}
@@ -69,21 +72,25 @@ module _ (part : Part) where
   counts_by_lem true false t run kept fresh r k f = k
   counts_by_lem false prs t run kept fresh r k f = f
 
-  running_counts : (p : Pins) (fetched : ℕ) (s : State) (t : TrueCounts) → Reached part s t → refusal_of part p s ≡ 0 → p.mrs && p.prs ≡ true
+  running_counts : (p : Pins) (fetched : ℕ) (s : State) (t : TrueCounts) → Reached part s t → Allowed (depth_of part) p s.write s.read t
       → Tracks (depth_of part) (running part p fetched s).write (running part p fetched s).read (true_after (depth_of part) p s.write s.read t)
   unfolding running
-  running_counts p fetched s t h e outside =
-      tracks_on (depth_of part) (part_sized part) s.write s.read t h.tracks p
-      (allowed part p s t e outside h.tracks.written) s.offsets.m s.offsets.n fetched
+  running_counts p fetched s t h allowed =
+      tracks_on (depth_of part) (part_sized part) s.write s.read t h.tracks p allowed s.offsets.m s.offsets.n fetched
 
   pub reach_stays : (p : Pins) (fetched : ℕ) (s : State) (t : TrueCounts) → Reached part s t → refusal_of part p s ≡ 0
       → Reached part (advanced part p fetched s).state (counts_after part p s t)
-  unfolding advanced state_after counts_after master_reset partial_reset
-  reach_stays p fetched s t h e = record {
-    tracks = counts_by_lem p.mrs p.prs (true_after (depth_of part) p s.write s.read t) (running part p fetched s) (partial_reset p s) (master_reset p s)
-        (running_counts p fetched s t h e) (cleared_counts _ _ _ _ _ _ _) (cleared_counts _ _ _ _ _ _ _);
-    narrow = widths_stay part p fetched s h.narrow;
-  }
+  unfolding advanced state_after counts_after master_reset partial_reset refusal_of refuses_six refuses_seven refuses_eight refuses_twelve
+  reach_stays p fetched s t h e =
+      let first : FirstRow t.written part p s 0 =
+      first_by t.written part p s h.tracks.written (both (low s.started) (high p.mrs)) (tells_six p s)
+      (tells_seven p s (λ method. asks_unselected method p) (low p.sen) (low p.wen)) (tells_eight p s)
+      (three (write_rise p s) (low p.wen) (high p.unsettled)) 0 (sym e) in
+      record {
+        tracks = counts_by_lem p.mrs p.prs (true_after (depth_of part) p s.write s.read t) (running part p fetched s) (partial_reset p s) (master_reset p s)
+            (λ outside. running_counts p fetched s t h (allowed_by part p s t first outside)) (cleared_counts _ _ _ _ _ _ _) (cleared_counts _ _ _ _ _ _ _);
+        narrow = widths_stay part p fetched s h.narrow;
+      }
 
   module _ (s : State) (t : TrueCounts) (h : Reached part s t) where
     exact : (count earlier : ℕ) → count ≡ earlier % width → earlier ≤ t.written → t.written ≤ earlier + depth_of part

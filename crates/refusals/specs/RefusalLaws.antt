@@ -13,29 +13,31 @@ use Rattle.sides.specs.SinceReset.{Tallies}
 use Rattle.sides.specs.Tracks.{Allowed}
 use Rattle.views.specs.TrueCounts.{TrueCounts}
 use Rattle.chip.specs.declared.state.State.{State}
-use Rattle.chip.specs.Tells.{fails, high_where}
-use Rattle.refusals.specs.Refuse.{from_eight, from_six, from_ten, refusal_of, refuses_eight, refuses_five, refuses_nine, refuses_seven, refuses_six, refuses_ten, refuses_twelve}
-use Rattle.refusals.specs.RowLaws.{first_row, retransmit, row_ten}
-use Rattle.refusals.specs.Rows.{Given, most_words}
+use Rattle.chip.specs.Tells.{both, fails, high, high_where, low, three, write_rise}
+use Rattle.refusals.specs.Refuse.{asks_unselected, refusal_of, refuses_eight, refuses_five, refuses_nine, refuses_seven, refuses_six, refuses_ten, refuses_twelve}
+use Rattle.refusals.specs.RowLaws.{first_by, retransmit, row_ten, tells_eight, tells_seven, tells_six}
+use Rattle.refusals.specs.Rows.{FirstRow, Given, most_words}
 
 last : (P : ℕ → Type 0) (row : Bool) (number : ℕ) → (row ≡ true → P number) → P 0 → P (cond row number 0)
 last P true number p none = p refl
 last P false number p none = none
 
+pub numbers_by : (P : ℕ → Type 0) (five outside six seven eight nine ten twelve : Bool) → P 0 → P 5 → P 6 → P 7 → P 8 → P 9 → P 10
+    → (twelve ≡ true → P 12)
+    → P (cond five 5 (cond outside (cond six 6 (cond seven 7 (cond eight 8 (cond nine 9 (cond ten 10 (cond twelve 12 0)))))) 0))
+numbers_by P a outside b c d e f g none five six seven eight nine ten twelve =
+    either P a 5 _ five
+    (either P outside _ 0
+    (either P b 6 _ six (either P c 7 _ seven (either P d 8 _ eight (either P e 9 _ nine (either P f 10 _ ten (last P g 12 twelve none))))))
+    none)
+
 -- what holds of 0 and of each row's number holds of the number given
 pub numbers : (P : ℕ → Type 0) (part : Part) (p : Pins) (s : State) → P 0 → P 5 → P 6 → P 7 → P 8 → P 9 → P 10 → (refuses_twelve p s ≡ true → P 12)
     → P (refusal_of part p s)
 unfolding refusal_of
-numbers P part p s none five six seven eight nine ten twelve =
-    either P (refuses_five p s) 5 _ five
-    (either P (p.mrs && p.prs) (from_six part p s) 0
-    (either P (refuses_six p s) 6 _ six
-    (either P (refuses_seven p s) 7 (from_eight part p s) seven
-    (either P (refuses_eight p s) 8 _ eight
-    (either P (refuses_nine (depth_of part) p s) 9 (from_ten p s) nine
-    (either P (refuses_ten p s) 10 _ ten
-    (last P (refuses_twelve p s) 12 twelve none))))))
-    none)
+numbers P part p s =
+    numbers_by P (refuses_five p s) (p.mrs && p.prs) (refuses_six p s) (refuses_seven p s) (refuses_eight p s)
+    (refuses_nine (depth_of part) p s) (refuses_ten p s) (refuses_twelve p s)
 
 -- a row that did not give the number does not hold
 passed : {Row Further : Type 0} {number : ℕ} → Given 0 (suc number) Row Further → (¬ Row) × Further
@@ -51,12 +53,12 @@ room_left : (part : Part) (mode : Mode) (written : ℕ) → ¬ (most_words part 
 room_left part Standard written n = omega (arith, (part_sized part).some)
 room_left part (Fwft untaken) written n = omega (arith, (part_sized part).some)
 
-pub allowed : (part : Part) (p : Pins) (s : State) (t : TrueCounts) → refusal_of part p s ≡ 0 → p.mrs && p.prs ≡ true → Tallies t.written s.write
+pub allowed_by : (part : Part) (p : Pins) (s : State) (t : TrueCounts) → FirstRow t.written part p s 0 → p.mrs && p.prs ≡ true
     → Allowed (depth_of part) p s.write s.read t
 unfolding refuses_ten
-allowed part p s t e outside k =
+allowed_by part p s t first outside =
     let high = (and-eq-true_iff p.mrs p.prs).0 outside in
-    let eight = passed (passed (passed (passed (first_row t.written part p s k 0 (sym e))).1).1).1 in
+    let eight = passed (passed (passed (passed first).1).1).1 in
     let nine = passed eight.1 in
     let ten = passed nine.1 in
     let back = (high_where (retransmit p s)).0 in
@@ -65,3 +67,13 @@ allowed part p s t e outside k =
       few = λ f. room_left part s.read.mode t.written (λ more. nine.0 (high, ((back f).0, (back f).1, inr more)));
       alone = λ f. not_low p.wen (λ low. eight.0 (high, ((back f).0, (back f).1, inl (inr low))));
     }
+
+pub allowed : (part : Part) (p : Pins) (s : State) (t : TrueCounts) → refusal_of part p s ≡ 0 → p.mrs && p.prs ≡ true → Tallies t.written s.write
+    → Allowed (depth_of part) p s.write s.read t
+unfolding refusal_of refuses_six refuses_seven refuses_eight refuses_twelve
+allowed part p s t e outside k =
+    let first : FirstRow t.written part p s 0 =
+    first_by t.written part p s k (both (low s.started) (high p.mrs)) (tells_six p s)
+    (tells_seven p s (λ method. asks_unselected method p) (low p.sen) (low p.wen)) (tells_eight p s)
+    (three (write_rise p s) (low p.wen) (high p.unsettled)) 0 (sym e) in
+    allowed_by part p s t first outside

@@ -15,10 +15,9 @@ use Rattle.sides.specs.Read.{retransmits}
 use Rattle.chip.specs.declared.state.State.{State}
 use Rattle.chip.specs.Enables.{last_fall_clean}
 use Rattle.chip.specs.Levels.{High, Low, Outside, WriteRise}
-use Rattle.chip.specs.Tells.{Tells, both, fails, high, high_where, write_rise}
-use Rattle.refusals.specs.RefusalLaws.{numbers}
-use Rattle.refusals.specs.Refuse.{asks_unselected, from_eight, from_six, from_ten, refusal_of, refuses_eight, refuses_five, refuses_nine, refuses_seven, refuses_six, refuses_ten, refuses_twelve}
-use Rattle.refusals.specs.RowLaws.{row_twelve}
+use Rattle.chip.specs.Tells.{Tells, both, fails, high, high_where, low, three, write_rise}
+use Rattle.refusals.specs.RefusalLaws.{numbers_by}
+use Rattle.refusals.specs.Refuse.{asks_unselected, refusal_of, refuses_eight, refuses_five, refuses_nine, refuses_seven, refuses_six, refuses_ten, refuses_twelve}
 
 -- the number of a sample, by whether its mark is judged and by the number of the same sample with D at rest
 abbrev by_mark : Bool → ℕ → ℕ
@@ -53,6 +52,13 @@ free_too : (judged free : Bool) (number same : ℕ) → eqb same 0 ≡ free → 
 free_too judged true number same f e z = eqb-true same 0 f
 free_too judged false number same f e z = sym e ∙ z
 
+twelve_by : {Out Asked : Type 0} {judged : Bool} {number same : ℕ} → Tells (Out × Asked) judged → number ≡ by_mark judged same → same ≢ 12
+    → (number ≡ 12) ↔ (Out × Asked × (same ≡ 0))
+twelve_by {judged = judged} {number = number} {same = same} told e n =
+    let by = exactly_by judged (eqb same 0) number same refl e n in
+    let asked = high_where told in
+    (λ e. ((asked.0 (by.0 e).0).0, (asked.0 (by.0 e).0).1, (by.0 e).1), λ all. by.1 (asked.1 (all.0, all.1), all.2))
+
 seven_speaks : (part : Part) (p : Pins) (s : State) → p.mrs && p.prs ≡ true → refuses_seven p s ≡ true → refusal_of part p s ≢ 0
 unfolding refusal_of
 seven_speaks part p s outside seven =
@@ -64,11 +70,13 @@ unselected_at_rest Parallel p = refl
 unselected_at_rest Serial p = refl
 
 module _ (part : Part) (p : Pins) (s : State) where
-  abbrev judged : Bool
-  judged = p.mrs && p.prs && refuses_twelve p s
-
-  told : Tells (Outside p × (WriteRise p s × Low p.wen × High p.unsettled)) judged
-  told = both (both (high p.mrs) (high p.prs)) (row_twelve p s)
+  -- the order of the rows, spelled out
+  abbrev in_order : Pins → ℕ
+  in_order p =
+      cond (refuses_five p s) 5
+      (cond (p.mrs && p.prs)
+      (cond (refuses_six p s) 6 (cond (refuses_seven p s) 7 (cond (refuses_eight p s) 8
+      (cond (refuses_nine (depth_of part) p s) 9 (cond (refuses_ten p s) 10 (cond (refuses_twelve p s) 12 0)))))) 0)
 
   none_at_rest : refuses_twelve (settled p) s ≡ false
   unfolding refuses_twelve
@@ -78,49 +86,51 @@ module _ (part : Part) (p : Pins) (s : State) where
   unfolding refuses_seven write_rises
   seven_at_rest = ap (λ (asks : Bool). write_rises p s.write && not p.ld && asks) (unselected_at_rest s.offsets.method p)
 
-  judged_last : refusal_of part p s ≡ by_mark judged (refusal_of part (settled p) s)
-  unfolding last_fall_clean read_rises refusal_of refuses_six refuses_eight refuses_nine refuses_ten retransmits write_rises
+  judged_last : in_order p ≡ by_mark (p.mrs && p.prs && refuses_twelve p s) (in_order (settled p))
+  unfolding last_fall_clean read_rises refuses_six refuses_eight refuses_nine refuses_ten retransmits write_rises
   judged_last =
-      let rest = settled p in
       let row = refuses_twelve p s in
-      behind (refuses_five p s) 5 judged _ _ refl refl
-      (outside_only (p.mrs && p.prs) row _ (from_six part rest s)
-      (behind (refuses_six p s) 6 row _ (cond (refuses_seven rest s) 7 (from_eight part rest s)) refl refl
-      (behind (refuses_seven p s) 7 row _ (from_eight part rest s) seven_at_rest refl
-      (behind (refuses_eight p s) 8 row _ (cond (refuses_nine (depth_of part) rest s) 9 (from_ten rest s)) refl refl
-      (behind (refuses_nine (depth_of part) p s) 9 row _ (from_ten rest s) refl refl
-      (behind (refuses_ten p s) 10 row _ (cond (refuses_twelve rest s) 12 0) refl refl
+      behind (refuses_five p s) 5 _ _ _ refl refl
+      (outside_only (p.mrs && p.prs) row _ _
+      (behind (refuses_six p s) 6 row _ _ refl refl
+      (behind (refuses_seven p s) 7 row _ _ seven_at_rest refl
+      (behind (refuses_eight p s) 8 row _ _ refl refl
+      (behind (refuses_nine (depth_of part) p s) 9 row _ _ refl refl
+      (behind (refuses_ten p s) 10 row _ _ refl refl
       (simp none_at_rest)))))))
 
-  never_at_rest : refusal_of part (settled p) s ≢ 12
+  never_at_rest : in_order (settled p) ≢ 12
   never_at_rest =
-      numbers (λ (n : ℕ). n ≢ 12) part (settled p) s (λ e. omega arith) (λ e. omega arith) (λ e. omega arith) (λ e. omega arith) (λ e. omega arith)
-      (λ e. omega arith) (λ e. omega arith) (λ row e. true≢false (sym row ∙ none_at_rest))
+      let r = settled p in
+      numbers_by (λ (n : ℕ). n ≢ 12) (refuses_five r s) (r.mrs && r.prs) (refuses_six r s) (refuses_seven r s) (refuses_eight r s)
+      (refuses_nine (depth_of part) r s) (refuses_ten r s) (refuses_twelve r s) (λ e. omega arith) (λ e. omega arith) (λ e. omega arith)
+      (λ e. omega arith) (λ e. omega arith) (λ e. omega arith) (λ e. omega arith) (λ row. absurd (true≢false (sym row ∙ none_at_rest)))
 
   -- it comes exactly where a word is asked for with the mark, LD HIGH or LOW, the part full or not, and nothing else is wrong
   pub twelve_exactly : (refusal_of part p s ≡ 12)
       ↔ (Outside p × (WriteRise p s × Low p.wen × High p.unsettled) × (refusal_of part (settled p) s ≡ 0))
+  unfolding refusal_of refuses_twelve
   twelve_exactly =
-      let by = exactly_by judged (eqb (refusal_of part (settled p) s) 0) (refusal_of part p s) (refusal_of part (settled p) s) refl judged_last never_at_rest in
-      let asked = high_where told in
-      (λ e. ((asked.0 (by.0 e).0).0, (asked.0 (by.0 e).0).1, (by.0 e).1), λ all. by.1 (asked.1 (all.0, all.1), all.2))
-
-  same_where : (judged ≡ true → refusal_of part (settled p) s ≢ 0) → refusal_of part p s ≡ refusal_of part (settled p) s
-  same_where = same_by judged (refusal_of part p s) (refusal_of part (settled p) s) judged_last
+      twelve_by (both (both (high p.mrs) (high p.prs)) (three (write_rise p s) (low p.wen) (high p.unsettled))) judged_last never_at_rest
 
   -- every other number comes before it
   pub others_first : refusal_of part (settled p) s ≢ 0 → refusal_of part p s ≡ refusal_of part (settled p) s
-  others_first some = same_where (λ e. some)
+  unfolding refusal_of
+  others_first some = same_by _ _ _ judged_last (λ e. some)
 
   -- in a reset, without a rise of WCLK or with WEN HIGH the mark changes nothing
   pub not_asked : ¬ (Outside p × WriteRise p s × Low p.wen) → refusal_of part p s ≡ refusal_of part (settled p) s
-  not_asked n = same_where (λ e. (let all = (high_where told).0 e in absurd (n (all.0, all.1.0, all.1.1))))
+  unfolding refusal_of refuses_twelve
+  not_asked n =
+      let told = both (both (high p.mrs) (high p.prs)) (three (write_rise p s) (low p.wen) (high p.unsettled)) in
+      same_by _ _ _ judged_last (λ e. (let all = (high_where told).0 e in absurd (n (all.0, all.1.0, all.1.1))))
 
   -- nor with a serial bit, which FWFT/SI gives and not D
   pub serial_free : Low p.ld → s.offsets.method ≡ Serial → refusal_of part p s ≡ refusal_of part (settled p) s
-  unfolding refuses_seven
+  unfolding refusal_of refuses_seven refuses_twelve
   serial_free ld method =
-      same_where
+      let told = both (both (high p.mrs) (high p.prs)) (three (write_rise p s) (low p.wen) (high p.unsettled)) in
+      same_by _ _ _ judged_last
       (λ e.
       (let all = (high_where told).0 e in
       let rises = (high_where (write_rise p s)).1 all.1.0 in
@@ -129,8 +139,12 @@ module _ (part : Part) (p : Pins) (s : State) where
 
   -- so a word that is taken, into memory or an offset register, was at rest
   pub word_settled : refusal_of part p s ≡ 0 → Outside p → WriteRise p s → Low p.wen → Low p.unsettled
+  unfolding refusal_of refuses_twelve
   word_settled free outside rise asked =
-      let same = refusal_of part (settled p) s in
-      let free-at-rest = free_too judged (eqb same 0) (refusal_of part p s) same refl judged_last free in
+      let told = both (both (high p.mrs) (high p.prs)) (three (write_rise p s) (low p.wen) (high p.unsettled)) in
+      let same = in_order (settled p) in
       fails (high p.unsettled)
-      (λ moving. (let twelve = twelve_exactly.1 (outside, (rise, asked, moving), free-at-rest) in omega (arith, free, twelve)))
+      (λ moving.
+      (let rest = free_too (p.mrs && p.prs && refuses_twelve p s) (eqb same 0) (in_order p) same refl judged_last free in
+      let twelve = (twelve_by told judged_last never_at_rest).1 (outside, (rise, asked, moving), rest) in
+      omega (arith, free, twelve)))

@@ -12,24 +12,30 @@ use Rattle.views.specs.Retransmit.{is_seen, just_begun}
 use Rattle.views.specs.Stages.{looks_past, read_rose}
 use Rattle.views.specs.TrueCounts.{MayAccept, Ordered, TakesRead, TrueCounts, across}
 
+-- with the test spelt out, for `tracks_on`
+pub takes_by : (depth : ℕ) (wclk : Bool) (t : TrueCounts) (view : View) (setup : Setup) (latest : ReadRise) (met : Bool)
+    → Ordered depth view (just_begun setup) wclk (read_rose latest) t
+    → TakesRead view (just_begun setup) (not (looks_past met latest && just_begun setup)) t (across met (read_rose latest) t.read t.read_before)
+takes_by depth wclk t Seen setup readRise.NoneSince met o = omega arith
+takes_by depth wclk t Seen setup (readRise.Before count) true o = omega arith
+takes_by depth wclk t Seen setup (readRise.Before count) false o = omega arith
+takes_by depth wclk t Taken setup readRise.NoneSince met o = omega arith
+takes_by depth wclk t Taken setup (readRise.Before count) true o = omega arith
+takes_by depth wclk t Taken setup (readRise.Before count) false o = omega arith
+takes_by depth wclk t Unseen TwoMore readRise.NoneSince met o = omega arith
+takes_by depth wclk t Unseen TwoMore (readRise.Before count) true o = omega arith
+takes_by depth wclk t Unseen TwoMore (readRise.Before count) false o = omega arith
+takes_by depth wclk t Unseen OneMore readRise.NoneSince met o = omega arith
+takes_by depth wclk t Unseen OneMore (readRise.Before count) true o = omega arith
+takes_by depth wclk t Unseen OneMore (readRise.Before count) false o = omega arith
+takes_by depth wclk t Unseen Over readRise.NoneSince met o = omega arith
+takes_by depth wclk t Unseen Over (readRise.Before count) true o = omega arith
+takes_by depth wclk t Unseen Over (readRise.Before count) false o = omega arith
+
 pub takes_read : (depth : ℕ) (wclk : Bool) (t : TrueCounts) (view : View) (setup : Setup) (latest : ReadRise) (met : Bool)
     → Ordered depth view (just_begun setup) wclk (read_rose latest) t
     → TakesRead view (just_begun setup) (from_after (looks_past met latest) setup) t (across met (read_rose latest) t.read t.read_before)
-takes_read depth wclk t Seen setup readRise.NoneSince met o = omega arith
-takes_read depth wclk t Seen setup (readRise.Before count) true o = omega arith
-takes_read depth wclk t Seen setup (readRise.Before count) false o = omega arith
-takes_read depth wclk t Taken setup readRise.NoneSince met o = omega arith
-takes_read depth wclk t Taken setup (readRise.Before count) true o = omega arith
-takes_read depth wclk t Taken setup (readRise.Before count) false o = omega arith
-takes_read depth wclk t Unseen TwoMore readRise.NoneSince met o = omega arith
-takes_read depth wclk t Unseen TwoMore (readRise.Before count) true o = omega arith
-takes_read depth wclk t Unseen TwoMore (readRise.Before count) false o = omega arith
-takes_read depth wclk t Unseen OneMore readRise.NoneSince met o = omega arith
-takes_read depth wclk t Unseen OneMore (readRise.Before count) true o = omega arith
-takes_read depth wclk t Unseen OneMore (readRise.Before count) false o = omega arith
-takes_read depth wclk t Unseen Over readRise.NoneSince met o = omega arith
-takes_read depth wclk t Unseen Over (readRise.Before count) true o = omega arith
-takes_read depth wclk t Unseen Over (readRise.Before count) false o = omega arith
+takes_read depth wclk t view setup latest met o = takes_by depth wclk t view setup latest met o
 
 pub may_accept : (depth : ℕ) (t : TrueCounts) (rises ld wen isFull : Bool) (view : View) → rises && ld && not wen && not (is_seen view) ≡ false
     → (isFull ≡ false → t.written < t.write_second + depth) → MayAccept rises view (rises && ld && not wen && not isFull) depth t

@@ -5,16 +5,16 @@ use Rattle.std.proofs.Common.{true≢false, sym, ◌∙◌, arith}
 use Rattle.std.proofs.Math.Dec.{eqb}
 use borrow.Author.Tests.{eqb-false, eqb-true, ne_eqb, not-true}
 use Rattle.counts.specs.Laws.{less_true}
-use Rattle.counts.specs.Round.{less, width}
+use Rattle.counts.specs.Round.{ahead, less, width}
 use Rattle.counts.specs.Sized.{Sized}
 use Rattle.pins.specs.declared.record.Pins.{Pins}
 use Rattle.sides.specs.declared.read.Mode.{Mode}
 use Rattle.sides.specs.declared.read.Mode.TheVariants.{Standard, Fwft}
 use Rattle.sides.specs.declared.read.ReadSide.{ReadSide}
 use Rattle.sides.specs.declared.write.WriteSide.{WriteSide}
-use Rattle.sides.specs.DeliveryLaws.{all_delivered, none_unseen}
-use Rattle.sides.specs.FlagLaws.{full_told}
-use Rattle.sides.specs.Read.{delivers, ready, ready_by, sees_word}
+use Rattle.sides.specs.Clocks.{read_rises}
+use Rattle.sides.specs.DeliveryLaws.{all_delivered, unseen_by}
+use Rattle.sides.specs.Read.{delivers, delivers_by, reads, ready, ready_by, sees_word}
 use Rattle.sides.specs.Tracks.{Tracks, Owes}
 use Rattle.sides.specs.Write.{full}
 use Rattle.views.specs.declared.retransmit.Setup.{Setup}
@@ -53,10 +53,15 @@ ready_by_lem (Fwft true) seen t h o l = refl
 ready_by_lem (Fwft false) seen t h o l = absurd (omega arith)
 
 module _ (depth : ℕ) (z : Sized depth) (w : WriteSide) (r : ReadSide) (t : TrueCounts) (g : Tracks depth w r t) where
-  pub room_left : full depth w ≡ false → t.written < t.write_second + depth
-  room_left e =
+  -- with the test spelt out, for `tracks_on`
+  pub room_told : eqb (ahead w.count w.second) depth ≡ false → t.written < t.write_second + depth
+  room_told e =
       room_by depth w.count.0 w.second.0 t.written t.write_second z.twice g.written.count g.write_second
-      (omega arith) (omega arith) (λ same. true≢false (sym ((full_told depth w).1 same) ∙ e))
+      (omega arith) (omega arith) (eqb-false _ _ e)
+
+  pub room_left : full depth w ≡ false → t.written < t.write_second + depth
+  unfolding full
+  room_left e = room_told e
 
   met : r.second.0 ≡ r.count.0 → t.read_second ≡ t.read
   met = met_by depth r.second.0 r.count.0 t.read_second t.read z.twice g.read_second g.read (omega arith) (omega arith)
@@ -68,12 +73,17 @@ module _ (depth : ℕ) (z : Sized depth) (w : WriteSide) (r : ReadSide) (t : Tru
       let differ = not-true same ((and-eq-true_iff (is_over r.setup) (not same)).0 e).1 in
       apart_by r.second.0 r.count.0 t.read_second t.read g.read_second g.read g.ordered.unread (eqb-false _ _ differ)
 
-  word_by : (p : Pins) (seen : Bool) → sees_word r ≡ seen → delivers p r ≡ true → t.read < t.read_second
-  word_by p true e f = word_seen e
-  word_by p false e f = absurd (true≢false (sym f ∙ none_unseen p r e))
+  word_by : (delivered seen : Bool) → sees_word r ≡ seen → (seen ≡ false → delivered ≡ false) → delivered ≡ true → t.read < t.read_second
+  word_by delivered true e none f = word_seen e
+  word_by delivered false e none f = absurd (true≢false (sym f ∙ none refl))
+
+  -- with the delivery spelt out, for `tracks_on`
+  pub word_told : (may asked : Bool) → delivers_by r.mode (may && sees_word r) (asked && ready_by r.mode (sees_word r)) ≡ true → t.read < t.read_second
+  word_told may asked = word_by _ (sees_word r) refl (unseen_by r.mode may asked (sees_word r))
 
   pub word_left : (p : Pins) → delivers p r ≡ true → t.read < t.read_second
-  word_left p = word_by p (sees_word r) refl
+  unfolding delivers reads ready
+  word_left p = word_told (read_rises p r && p.rt) (read_rises p r && p.ld && not p.ren && p.rt)
 
   pub none_owed : sees_word r ≡ false → t.three_ago ≤ t.read
   unfolding sees_word

@@ -16,13 +16,13 @@ use Rattle.views.specs.Retransmit.{is_over}
 use Rattle.views.specs.TrueCounts.{MayMove, Setting, TrueCounts}
 
 -- no word seen, none delivered
-unseen_by : (mode : Mode) (asked : Bool) → delivers_by mode false (asked && ready_by mode false) ≡ false
-unseen_by Standard asked = and-false asked
-unseen_by (Fwft untaken) asked = refl
+pub unseen_by : (mode : Mode) (may asked seen : Bool) → seen ≡ false → delivers_by mode (may && seen) (asked && ready_by mode seen) ≡ false
+unseen_by Standard may asked seen e = simp (e, and-false)
+unseen_by (Fwft untaken) may asked seen e = simp (e, and-false)
 
 pub none_unseen : (p : Pins) (r : ReadSide) → sees_word r ≡ false → delivers p r ≡ false
 unfolding delivers reads ready
-none_unseen p r e = simp (e, and-false) (unseen_by r.mode (read_rises p r && p.ld && not p.ren && p.rt))
+none_unseen p r = unseen_by r.mode (read_rises p r && p.rt) (read_rises p r && p.ld && not p.ren && p.rt) (sees_word r)
 
 pub none_still : (p : Pins) (r : ReadSide) → read_rises p r ≡ false → delivers p r ≡ false
 unfolding delivers reads

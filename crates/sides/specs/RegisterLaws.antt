@@ -9,7 +9,7 @@ use Rattle.sides.specs.declared.read.Mode.TheVariants.{Standard, Fwft}
 use Rattle.sides.specs.declared.read.ReadSide.{ReadSide}
 use Rattle.sides.specs.declared.write.WriteSide.{WriteSide}
 use Rattle.sides.specs.Clocks.{read_rises}
-use Rattle.sides.specs.Read.{delivers, read_after, read_count_after, reads, ready, retransmits, sees_word}
+use Rattle.sides.specs.Read.{delivers, read_after, read_count_after, reads, ready, register_after, retransmits, sees_word}
 use Rattle.views.specs.Retransmit.{is_over}
 
 -- a word is delivered: the low 18 bits of what memory holds at the read count
@@ -40,45 +40,58 @@ module _ (n : ℕ) (p : Pins) (fetched : ℕ) (w : WriteSide) (r : ReadSide) whe
   unfolding sees_word
   sees_none same = simp (eq-eqb r.second.0 r.count.0 same, and-false)
 
-  delivered_by : delivers p r ≡ true → p.rt ≡ true → Delivered fetched r next
+  -- `kept` says what the register then holds: each theorem shows it anew, so that each fails alone where it does not hold
+  delivered_by : next.output ≡ register_after (delivers p r) fetched r.output → delivers p r ≡ true → p.rt ≡ true → Delivered fetched r next
   unfolding read_after read_count_after retransmits
-  delivered_by d high = record { output = simp d; count = simp (d, high, and-false) }
+  delivered_by kept d high = record { output = kept ∙ simp d; count = simp (d, high, and-false) }
+
+  none_by : next.output ≡ register_after (delivers p r) fetched r.output → delivers p r ≡ false → Left p r next
+  unfolding read_after read_count_after retransmits
+  none_by kept d = record { output = kept ∙ simp d; count = λ high. simp (d, high, and-false) }
 
   pub left_by : delivers p r ≡ false → Left p r next
-  unfolding read_after read_count_after retransmits
-  left_by d = record { output = simp d; count = λ high. simp (d, high, and-false) }
+  unfolding read_after
+  left_by d = none_by refl d
 
   pub standard_read : r.mode ≡ Standard → read_rises p r ≡ true → p.ld ≡ true → p.ren ≡ false → p.rt ≡ true → ready r ≡ true → Delivered fetched r next
-  unfolding delivers reads
-  standard_read mode e ld ren rt flag = delivered_by (simp (mode, e, ld, ren, rt, flag)) rt
+  unfolding read_after delivers reads
+  standard_read mode e ld ren rt flag = delivered_by refl (simp (mode, e, ld, ren, rt, flag)) rt
 
   -- with LD LOW, and with EF LOW before the sample, too
   pub standard_none : r.mode ≡ Standard → read_rises p r && p.ld && not p.ren && p.rt && ready r ≡ false → Left p r next
-  unfolding delivers reads
-  standard_none mode none = left_by (simp (mode, none))
+  unfolding read_after delivers reads
+  standard_none mode none = none_by refl (simp (mode, none))
 
   -- in FWFT a read takes the untaken word; where none is left, whatever LD and REN are, the next comes if the second stage held one before
   module _ (untaken : Bool) (mode : r.mode ≡ Fwft untaken) (e : read_rises p r ≡ true) (rt : p.rt ≡ true)
       (gone : untaken && not (p.ld && not p.ren) ≡ false) where
-    comes : delivers p r ≡ sees_word r
-    unfolding delivers reads ready
-    comes = simp (mode, e, rt, none_left untaken p.ld p.ren gone, and-true)
+    -- `kept` as above, and likewise what a read takes
+    module _ (kept : next.output ≡ register_after (delivers p r) fetched r.output) (taking : reads p r ≡ p.ld && not p.ren && untaken) where
+      comes : delivers p r ≡ sees_word r
+      unfolding delivers
+      comes = simp (mode, e, rt, taking, none_left untaken p.ld p.ren gone, and-true)
 
-    shows : ready next ≡ sees_word r
-    unfolding read_after ready reads retransmits
-    shows = simp (mode, comes, e, rt) (simp (and-true, none_left untaken p.ld p.ren gone, or-false))
+      shows : ready next ≡ sees_word r
+      unfolding read_after ready retransmits
+      shows = simp (mode, comes, e, rt, taking) (simp (none_left untaken p.ld p.ren gone, or-false))
+
+      pub next_by : is_over r.setup ≡ true → r.second.0 ≢ r.count.0 → Delivered fetched r next × (ready next ≡ true)
+      next_by over differ =
+          let sees = sees_by over differ in
+          (delivered_by kept (comes ∙ sees) rt, shows ∙ sees)
 
     pub fwft_next : is_over r.setup ≡ true → r.second.0 ≢ r.count.0 → Delivered fetched r next × (ready next ≡ true)
-    fwft_next over differ =
-        let sees = sees_by over differ in
-        (delivered_by (comes ∙ sees) rt, shows ∙ sees)
+    unfolding read_after reads ready
+    fwft_next = next_by refl (simp (mode, e, rt, and-true))
 
     pub fwft_none : r.second.0 ≡ r.count.0 → Left p r next × (ready next ≡ false)
+    unfolding read_after reads ready
     fwft_none same =
+        let taking : reads p r ≡ p.ld && not p.ren && untaken = simp (mode, e, rt, and-true) in
         let none = sees_none same in
-        (left_by (comes ∙ none), shows ∙ none)
+        (none_by refl (comes refl taking ∙ none), shows refl taking ∙ none)
 
   -- a word that no read takes stays, an offset read or not, and OR stays LOW but for a retransmit
   pub fwft_held : r.mode ≡ Fwft true → read_rises p r && p.ld && not p.ren ≡ false → Left p r next × (retransmits p r ≡ false → ready next ≡ true)
   unfolding read_after delivers reads ready
-  fwft_held mode none = (left_by (simp (mode, none, and-false)), λ still. simp (mode, still, none, or-true))
+  fwft_held mode none = (none_by refl (simp (mode, none, and-false)), λ still. simp (mode, still, none, or-true))

@@ -9,7 +9,6 @@ use Rattle.sides.specs.declared.write.WriteSide.{WriteSide}
 use Rattle.sides.specs.Clocks.{read_rises}
 use Rattle.sides.specs.HeldLaws.{none_by}
 use Rattle.sides.specs.Read.{delivers, mode_after, read_after, read_count_after, reads, ready, ready_by, retransmits, sees_word}
-use Rattle.sides.specs.RegisterLaws.{left_by}
 
 pub record Retransmitted (r after : ReadSide) : Type 0 where
   pub count : after.count.0 ≡ 0
@@ -30,7 +29,7 @@ pub retransmitted : (n : ℕ) (p : Pins) (fetched : ℕ) (w : WriteSide) (r : Re
 unfolding read_after read_count_after retransmits ready sees_word
 retransmitted n p fetched w r e low = record {
   count = simp (e, low);
-  output = (left_by n p fetched w r (none_delivered p r e low)).output;
+  output = simp (none_delivered p r e low);
   pae = simp (e, low);
   ready = simp (e, low, none_ready r.mode);
 }

@@ -68,7 +68,7 @@ fn is_delivered(p: Pins, r: ReadSide) -> bool
     )
 }
 
-// The part and `m` bound rows of PAE's table; which rows there are changes no level (`pae-by-table` of views).
+// The part and `m` bound rows of PAE's table; which rows there are changes no level (`pae_by_table_lem` of views).
 pub fn read_after(
     part: Part,
     n: u16,

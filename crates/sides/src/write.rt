@@ -61,7 +61,7 @@ fn takes_after(p: Pins, r: ReadSide, w: WriteSide) -> bool
     !(views::stages::looks_past(p.skew.write, latest) & views::retransmit::has_just_begun(setup))
 }
 
-// `n` bounds rows of PAF's table; which rows there are changes no level (`paf-by-table` of views).
+// `n` bounds rows of PAF's table; which rows there are changes no level (`paf_by_table_lem` of views).
 pub fn write_after(part: Part, n: u16, m: u16, p: Pins, r: ReadSide, w: WriteSide) -> WriteSide
     ensures { result ≡ write_after (depth_of part) m p r w }
 {

@@ -114,15 +114,16 @@ all_levels s =
       four_levels_lem (spelling s) 48 (level_small s.enables.rt) (level_small s.enables.ren) (level_small s.enables.wen) (level_small s.enables.clean),
     )
 
+both_true : {a b : Bool} → a ≡ true → b ≡ true → a && b ≡ true
+both_true e f = simp (e, f)
+
 own_digits : (s : State) → spelled_digits (spelling s) ≡ true
 unfolding spelled_digits spelling
 own_digits s =
-    simp (
-      all_levels s,
-      lt-ltb (view_digit s.write.view) 3 (view_small s.write.view),
-      lt-ltb (setup_digit s.read.setup) 3 (setup_small s.read.setup),
-      lt-ltb (mode_digit s.read.mode) 3 (mode_small s.read.mode),
-    )
+    both_true
+    (both_true (both_true (all_levels s) (lt-ltb (view_digit s.write.view) 3 (view_small s.write.view)))
+    (lt-ltb (setup_digit s.read.setup) 3 (setup_small s.read.setup)))
+    (lt-ltb (mode_digit s.read.mode) _ (let h = mode_small s.read.mode in omega (arith, h)))
 
 own_blanks : (s : State) → Small s → blank_elsewhere (spelling s) ≡ true
 unfolding blank_elsewhere level_at half_at spelling

@@ -9,7 +9,6 @@ use Rattle.pins.specs.declared.record.Pins.{Pins}
 use Rattle.numerals.specs.Bytes.{byte_of, half_at, low_byte, low_first_at, put_four, put_fours}
 use Rattle.numerals.specs.Digits.{digit_of, mode_digit, mode_of, read_before, read_rise_of, setup_digit, setup_of, shown_offset, shows_of, view_digit, view_of, write_before, write_rise_of}
 use Rattle.numerals.specs.DigitsLaws.{digit_back, method_back, mode_back, next_back, offset_back, read_before_back, read_rose_back, setup_back, shown_back, view_back, write_before_back, write_rose_back}
-use Rattle.spelling.specs.EnumLaws.{enums_small}
 use Rattle.spelling.specs.Spelling.{blank_elsewhere, counts_of, enables_in, enables_of, enums_of, four_levels, level_at, levels_of, offsets_in, put_clocks, put_remembered, read_in, reading_in, rest_of, spelled_digits, spelling, spells, state_bytes, state_in, write_in}
 
 -- the first elements of a list, one by one
@@ -100,7 +99,6 @@ record Own (bytes : List ℕ) : Type 0 where
   enables : Levels bytes 48
   view : view_digit (view_of (get_or bytes 12 0)) ≡ get_or bytes 12 0
   setup : setup_digit (setup_of (get_or bytes 13 0)) ≡ get_or bytes 13 0
-  mode : mode_digit (mode_of (get_or bytes 14 0)) ≡ get_or bytes 14 0
   read : read_before (read_rise_of (level_at bytes 4) (half_at bytes 22)) ≡ half_at bytes 22
   write : write_before (write_rise_of (level_at bytes 5) (half_at bytes 30)) ≡ half_at bytes 30
   shown : shown_offset (shows_of (level_at bytes 11) (half_at bytes 40)) ≡ half_at bytes 40
@@ -110,8 +108,8 @@ own : (bytes : List ℕ) → spells bytes ≡ true → Own bytes
 unfolding spells spelled_digits blank_elsewhere
 own bytes e =
     let all = both (spelled_digits bytes) (blank_elsewhere bytes) e in
-    let digits = enums_small bytes e in
-    let view = both _ _ (both _ _ (both _ _ all.0).0).0 in
+    let setup = both _ _ (both _ _ all.0).0 in
+    let view = both _ _ setup.0 in
     let enables = both _ _ view.0 in
     let offsets = both _ _ enables.0 in
     let flags = both (four_levels bytes 0) (four_levels bytes 4) offsets.0 in
@@ -123,9 +121,8 @@ own bytes e =
       flags = levels bytes 4 flags.1;
       offsets = levels bytes 8 offsets.1;
       enables = levels bytes 48 enables.1;
-      view = view_back _ digits.0;
-      setup = setup_back _ digits.1;
-      mode = mode_back _ digits.2;
+      view = view_back _ (ltb-true _ 3 view.1);
+      setup = setup_back _ (ltb-true _ 3 setup.1);
       read = read_before_back (half_at bytes 22) (level_at bytes 4) sides.0;
       write = write_before_back (half_at bytes 30) (level_at bytes 5) sides.1;
       shown = shown_back (half_at bytes 40) (level_at bytes 11) shown.1;
@@ -134,9 +131,11 @@ own bytes e =
 
 -- what was read is written back as the same bytes
 pub written_back : (bytes : List ℕ) → length bytes ≡ state_bytes → Bytes bytes → spells bytes ≡ true → spelling (state_in bytes) ≡ bytes
-unfolding spelling state_in write_in read_in offsets_in reading_in enables_in
+unfolding spelling spells spelled_digits state_in write_in read_in offsets_in reading_in enables_in
 written_back bytes room h e =
     let o = own bytes e in
+    let last = both _ _ (both (spelled_digits bytes) (blank_elsewhere bytes) e).0 in
+    let mode : mode_digit (mode_of (get_or bytes 14 0)) ≡ get_or bytes 14 0 = mode_back _ (ltb-true _ 3 last.1) in
     let a = o.start in
     let b = o.flags in
     let c = o.offsets in
@@ -167,7 +166,7 @@ written_back bytes room h e =
       d.fourth,
       o.view,
       o.setup,
-      o.mode,
+      mode,
       o.read,
       o.write,
       o.shown,

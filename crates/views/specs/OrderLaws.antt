@@ -17,25 +17,19 @@ begun_once OneMore = refl
 begun_once TwoMore = refl
 
 module _ (depth : ℕ) (wclk rclk : Bool) (t : TrueCounts) where
-  -- a rise of WCLK
-  write_rise : (view : View) (begun after accepts : Bool) (taken : ℕ)
-      → Ordered depth view begun wclk rclk t → TakesRead view begun after t taken → MayAccept true view accepts depth t
-      → Ordered depth (looked after view) begun true false (after_write true accepts taken t)
-  write_rise Seen begun after true taken o w m = omega arith
-  write_rise Seen begun after false taken o w m = omega arith
-  write_rise Taken begun after false taken o w m = omega arith
-  write_rise Taken begun after true taken o w m = absurd m
-  write_rise Unseen false true false taken o w m = omega arith
-  write_rise Unseen false false false taken o w m = omega arith
-  write_rise Unseen true true false taken o w m = omega arith
-  write_rise Unseen true false false taken o w m = omega arith
-  write_rise Unseen begun after true taken o w m = absurd m
-
   -- the write side's part of a sample
   pub ordered_write : (rises : Bool) (view : View) (begun after accepts : Bool) (taken : ℕ)
       → Ordered depth view begun wclk rclk t → TakesRead view begun after t taken → MayAccept rises view accepts depth t
       → Ordered depth (cond rises (looked after view) view) begun (rises || wclk) (not rises && rclk) (after_write rises accepts taken t)
-  ordered_write true view begun after accepts taken o w m = write_rise view begun after accepts taken o w m
+  ordered_write true Seen begun after true taken o w m = omega arith
+  ordered_write true Seen begun after false taken o w m = omega arith
+  ordered_write true Taken begun after false taken o w m = omega arith
+  ordered_write true Taken begun after true taken o w m = absurd m
+  ordered_write true Unseen false true false taken o w m = omega arith
+  ordered_write true Unseen false false false taken o w m = omega arith
+  ordered_write true Unseen true true false taken o w m = omega arith
+  ordered_write true Unseen true false false taken o w m = omega arith
+  ordered_write true Unseen begun after true taken o w m = absurd m
   ordered_write false view begun after true taken o w m = absurd m
   ordered_write false view begun after false taken o w m = o
 

@@ -1,5 +1,5 @@
 -- Tables 1 and 2: each count has one row, and what a flag's column shows in it is what the flag's rule decides.
-use Rattle.std.specs.Prelude.{ℕ, ◌+◌, ◌-◌, ◌/◌, ◌≤◌, ◌<◌, Bool, true, false, not, cond, ◌↔◌, ◌≡◌, eqb, leb, ltb}
+use Rattle.std.specs.Prelude.{ℕ, ◌+◌, ◌-◌, ◌/◌, ◌≤◌, ◌<◌, Bool, true, false, not, cond, ◌&&◌, ◌↔◌, ◌≡◌, eqb, leb, ltb}
 use Rattle.std.proofs.Math.Bool.{and-eq-true_iff, not-not}
 use Rattle.std.proofs.Common.{◌∙◌, ap, sym, arith}
 use Rattle.std.proofs.Math.Path.{refl}
@@ -7,7 +7,6 @@ use borrow.Author.Tests.{eq-eqb, eqb-false, eqb-true, le-leb, le-ltb, leb-false,
 use Rattle.counts.specs.declared.part.Part.{Part}
 use Rattle.counts.specs.Part.{depth_of}
 use Rattle.counts.specs.PartLaws.{deepest}
-use Rattle.views.specs.FlagLaws.{Decided, decided}
 use Rattle.views.specs.Flags.{hf_low, pae_low, paf_low}
 use Rattle.views.specs.Tables.{beyond_memory, first_of, has_row, hf_by_table, hf_level, in_order, last_of, limits_of, pae_by_table, pae_level, paf_by_table, paf_level, row_at, row_of, stands_at}
 use Rattle.views.specs.declared.tables.Limits.{Limits}
@@ -34,13 +33,20 @@ pub at_overlaps : (in_order 8192 4096 4095 ≡ true) × (in_order 8192 4097 4095
     × (has_row 8192 0 0 8192 ≡ true) × (has_row 8192 0 0 8193 ≡ false)
 at_overlaps = (refl, refl, refl, refl, refl, refl)
 
--- where a row decides, for all numbers and both ways
-pub order_told : (depth n m : ℕ) → (in_order depth n m ≡ true) ↔ ((n ≤ depth / 2) × (depth / 2 < depth - m))
-order_told depth n m =
+-- The lemmas that are not `pub` spell out the tests, the way down the rows, the count and the columns, so that each theorem holds or fails alone.
+abbrev apart : ℕ → ℕ → ℕ → Bool
+apart depth n m = leb n (depth / 2) && ltb (depth / 2) (depth - m)
+
+apart_told : (depth n m : ℕ) → (apart depth n m ≡ true) ↔ ((n ≤ depth / 2) × (depth / 2 < depth - m))
+apart_told depth n m =
     let parts = and-eq-true_iff (leb n (depth / 2)) (ltb (depth / 2) (depth - m)) in (
       λ e. (leb-true n (depth / 2) (parts.0 e).0, ltb-true (depth / 2) (depth - m) (parts.0 e).1),
       λ told. parts.1 (le-leb n (depth / 2) told.0, lt-ltb (depth / 2) (depth - m) told.1),
     )
+
+-- where a row decides, for all numbers and both ways
+pub order_told : (depth n m : ℕ) → (in_order depth n m ≡ true) ↔ ((n ≤ depth / 2) × (depth / 2 < depth - m))
+order_told depth n m = apart_told depth n m
 
 pub row_told : (depth n m words : ℕ) → (has_row depth n m words ≡ true) ↔ ((in_order depth n m ≡ true) × (words ≤ depth))
 row_told depth n m words =
@@ -60,10 +66,13 @@ pub record OneRow (limits : Limits) (count : ℕ) : Type 0 where
   pub held : Held limits (row_of limits count) count
   pub only : (row : Row) → Held limits row count → row_of limits count ≡ row
 
-pub ordered : (beyond depth n m : ℕ) → in_order depth n m ≡ true → Ordered (limits_of beyond depth n m)
-ordered beyond depth n m e =
-    let told = (order_told depth n m).0 e in
+ordered_by : (beyond depth n m : ℕ) → apart depth n m ≡ true → Ordered (limits_of beyond depth n m)
+ordered_by beyond depth n m e =
+    let told = (apart_told depth n m).0 e in
     record { below = omega arith; above = omega arith; within = omega arith }
+
+pub ordered : (beyond depth n m : ℕ) → in_order depth n m ≡ true → Ordered (limits_of beyond depth n m)
+ordered beyond depth n m e = ordered_by beyond depth n m e
 
 -- the limits as the sheet prints them, from the second row to the last; where Table 1 has the depth, Table 2 has one more
 pub record Printed (beyond depth n m : ℕ) (limits : Limits) : Type 0 where
@@ -75,7 +84,7 @@ pub record Printed (beyond depth n m : ℕ) (limits : Limits) : Type 0 where
 
 pub as_printed : (beyond depth n m : ℕ) → in_order depth n m ≡ true → Printed beyond depth n m (limits_of beyond depth n m)
 as_printed beyond depth n m e =
-    let order = ordered beyond depth n m e in
+    let order = ordered_by beyond depth n m e in
     record {
       second = (refl, refl);
       third = (refl, refl);
@@ -86,6 +95,13 @@ as_printed beyond depth n m e =
 
 some : (count : ℕ) → eqb count 0 ≡ false → 1 ≤ count
 some count e = let h = eqb-false count 0 e in omega arith
+
+abbrev row_by : Limits → ℕ → Row
+row_by limits count =
+    cond (leb count limits.few) (cond (eqb count 0) Empty AlmostEmpty)
+    (cond (leb count limits.half) ToHalf
+    (cond (ltb count limits.many) AboveHalf
+    (cond (ltb count limits.full) AlmostFull Full)))
 
 module _ (limits : Limits) (count : ℕ) where
   -- by the tests on the way down the rows
@@ -109,9 +125,11 @@ module _ (limits : Limits) (count : ℕ) where
   held_by false z false false false a b c d e t =
       let u = ltb-false count limits.full e in record { first = omega arith; last = omega arith }
 
+  held_in : count ≤ limits.full → Held limits (row_by limits count) count
+  held_in t = held_by _ _ _ _ _ refl refl refl refl refl t
+
   -- a row that holds the count is the one that is found
-  only_by : (row : Row) → Ordered limits → Held limits row count → row_of limits count ≡ row
-  unfolding row_of
+  only_by : (row : Row) → Ordered limits → Held limits row count → row_by limits count ≡ row
   only_by Empty o h = simp (le-leb count limits.few (omega arith), eq-eqb count 0 (omega arith))
   only_by AlmostEmpty o h = simp (le-leb count limits.few (omega arith), ne_eqb count 0 (λ e. omega arith))
   only_by ToHalf o h = simp (lt-leb count limits.few (omega arith), le-leb count limits.half (omega arith))
@@ -135,14 +153,18 @@ module _ (limits : Limits) (count : ℕ) where
   pub one_row : Ordered limits → count ≤ limits.full → OneRow limits count
   unfolding row_of
   one_row o t = record {
-    held = held_by _ _ _ _ _ refl refl refl refl refl t;
+    held = held_in t;
     only = λ row h. only_by row o h;
   }
 
 -- every count of either table, for any depth and offsets that leave the rows in order
 pub each_count : (table : Table) (depth n m count : ℕ) → in_order depth n m ≡ true → count ≤ depth + beyond_memory table
     → OneRow (limits_of (beyond_memory table) depth n m) count
-each_count table depth n m count e t = one_row (limits_of (beyond_memory table) depth n m) count (ordered (beyond_memory table) depth n m e) t
+unfolding row_of
+each_count table depth n m count e t = record {
+  held = held_in (limits_of (beyond_memory table) depth n m) count t;
+  only = λ row h. only_by (limits_of (beyond_memory table) depth n m) count row (ordered_by (beyond_memory table) depth n m e) h;
+}
 
 -- Table 2 with an empty memory: the same levels in the first row, the output register empty too, and in the second, a word in it
 pub none_in_memory : (depth n m : ℕ) → let limits = limits_of (beyond_memory Two) depth n m in
@@ -160,7 +182,7 @@ pub row_fits : (beyond depth n m words : ℕ) {found : Bool} → found ≡ has_r
     → (n ≤ depth) × (stands_at beyond words < 65536)
 row_fits beyond depth n m words tested found fits =
     let told = (row_told depth n m words).0 (sym tested ∙ found) in
-    let order = ordered beyond depth n m told.0 in (omega arith, omega arith)
+    let order = ordered_by beyond depth n m told.0 in (omega arith, omega arith)
 
 shown_high : (low : Bool) (P : Type 0) → (low ≡ true) ↔ P → (P → ⊥) → true ≡ not low
 shown_high true P rule fails = absurd (fails (rule.0 refl))
@@ -174,64 +196,92 @@ decided_by : (found level low : Bool) → (found ≡ true → level ≡ not low)
 decided_by true level low agrees = ap not (agrees refl) ∙ not-not low
 decided_by false level low agrees = refl
 
+-- a column from the first row to the last
+abbrev Column : (Row → Bool) → Bool → Bool → Bool → Bool → Bool → Bool → Type 0
+Column level one two three four five six =
+    (level Empty ≡ one) × (level AlmostEmpty ≡ two) × (level ToHalf ≡ three) × (level AboveHalf ≡ four) × (level AlmostFull ≡ five) × (level Full ≡ six)
+
 -- what a column shows for the counts from a row's first to its last
 module _ (beyond depth n m words : ℕ) where
   abbrev limits : Limits
   limits = limits_of beyond depth n m
 
-  rules : Decided depth m n words
-  rules = decided depth m n words
-
-  paf_in : (row : Row) → Ordered limits → Held limits row (stands_at beyond words) → paf_level row ≡ not (paf_low depth m words)
-  paf_in Empty o h = shown_high _ _ rules.paf (λ low. omega arith)
-  paf_in AlmostEmpty o h = shown_high _ _ rules.paf (λ low. omega arith)
-  paf_in ToHalf o h = shown_high _ _ rules.paf (λ low. omega arith)
-  paf_in AboveHalf o h = shown_high _ _ rules.paf (λ low. omega arith)
-  paf_in AlmostFull o h = shown_low _ _ rules.paf (omega arith)
-  paf_in Full o h = shown_low _ _ rules.paf (omega arith)
-
-  hf_in : (row : Row) → Ordered limits → Held limits row (stands_at beyond words) → hf_level row ≡ not (hf_low depth words)
-  hf_in Empty o h = shown_high _ _ rules.hf (λ low. omega arith)
-  hf_in AlmostEmpty o h = shown_high _ _ rules.hf (λ low. omega arith)
-  hf_in ToHalf o h = shown_high _ _ rules.hf (λ low. omega arith)
-  hf_in AboveHalf o h = shown_low _ _ rules.hf (omega arith)
-  hf_in AlmostFull o h = shown_low _ _ rules.hf (omega arith)
-  hf_in Full o h = shown_low _ _ rules.hf (omega arith)
-
-  pae_in : (row : Row) → Ordered limits → Held limits row (stands_at beyond words) → pae_level row ≡ not (pae_low n words)
-  pae_in Empty o h = shown_low _ _ rules.pae (omega arith)
-  pae_in AlmostEmpty o h = shown_low _ _ rules.pae (omega arith)
-  pae_in ToHalf o h = shown_high _ _ rules.pae (λ low. omega arith)
-  pae_in AboveHalf o h = shown_high _ _ rules.pae (λ low. omega arith)
-  pae_in AlmostFull o h = shown_high _ _ rules.pae (λ low. omega arith)
-  pae_in Full o h = shown_high _ _ rules.pae (λ low. omega arith)
-
   -- where there is a row, its column gives what the rule gives
-  in_row : (level : Row → Bool) (rule : Bool) → ((row : Row) → Ordered limits → Held limits row (stands_at beyond words) → level row ≡ not rule)
-      → has_row depth n m words ≡ true → level (row_at beyond depth n m words) ≡ not rule
-  in_row level rule agrees e =
-      let told = (row_told depth n m words).0 e in
-      let order = ordered beyond depth n m told.0 in
-      agrees (row_at beyond depth n m words) order (one_row limits (stands_at beyond words) order (omega arith)).held
+  in_row : (level : Row → Bool) (low : Bool) → ((row : Row) → Ordered limits → Held limits row (words + beyond) → level row ≡ not low)
+      → (apart depth n m ≡ true) × (words ≤ depth) → level (row_by limits (words + beyond)) ≡ not low
+  in_row level low agrees told =
+      agrees (row_by limits (words + beyond)) (ordered_by beyond depth n m told.0) (held_in limits (words + beyond) (omega arith))
+
+  module _ (level : Row → Bool) (low : Bool) where
+    paf_in : (low ≡ true) ↔ (depth - m ≤ words) → Column level true true true true false false
+        → (row : Row) → Ordered limits → Held limits row (words + beyond) → level row ≡ not low
+    paf_in rule column Empty o h = column.0 ∙ shown_high low _ rule (λ l. omega arith)
+    paf_in rule column AlmostEmpty o h = column.1 ∙ shown_high low _ rule (λ l. omega arith)
+    paf_in rule column ToHalf o h = column.2 ∙ shown_high low _ rule (λ l. omega arith)
+    paf_in rule column AboveHalf o h = column.3 ∙ shown_high low _ rule (λ l. omega arith)
+    paf_in rule column AlmostFull o h = column.4 ∙ shown_low low _ rule (omega arith)
+    paf_in rule column Full o h = column.5 ∙ shown_low low _ rule (omega arith)
+
+    hf_in : (low ≡ true) ↔ (depth / 2 < words) → Column level true true true false false false
+        → (row : Row) → Ordered limits → Held limits row (words + beyond) → level row ≡ not low
+    hf_in rule column Empty o h = column.0 ∙ shown_high low _ rule (λ l. omega arith)
+    hf_in rule column AlmostEmpty o h = column.1 ∙ shown_high low _ rule (λ l. omega arith)
+    hf_in rule column ToHalf o h = column.2 ∙ shown_high low _ rule (λ l. omega arith)
+    hf_in rule column AboveHalf o h = column.3 ∙ shown_low low _ rule (omega arith)
+    hf_in rule column AlmostFull o h = column.4 ∙ shown_low low _ rule (omega arith)
+    hf_in rule column Full o h = column.5 ∙ shown_low low _ rule (omega arith)
+
+    pae_in : (low ≡ true) ↔ (words ≤ n) → Column level false false true true true true
+        → (row : Row) → Ordered limits → Held limits row (words + beyond) → level row ≡ not low
+    pae_in rule column Empty o h = column.0 ∙ shown_low low _ rule (omega arith)
+    pae_in rule column AlmostEmpty o h = column.1 ∙ shown_low low _ rule (omega arith)
+    pae_in rule column ToHalf o h = column.2 ∙ shown_high low _ rule (λ l. omega arith)
+    pae_in rule column AboveHalf o h = column.3 ∙ shown_high low _ rule (λ l. omega arith)
+    pae_in rule column AlmostFull o h = column.4 ∙ shown_high low _ rule (λ l. omega arith)
+    pae_in rule column Full o h = column.5 ∙ shown_high low _ rule (λ l. omega arith)
 
   pub paf_in_row : has_row depth n m words ≡ true → paf_level (row_at beyond depth n m words) ≡ not (paf_low depth m words)
-  paf_in_row e = in_row paf_level (paf_low depth m words) paf_in e
+  unfolding row_of
+  paf_in_row e =
+      in_row paf_level (paf_low depth m words)
+      (paf_in _ _ (leb-true (depth - m) words, le-leb (depth - m) words) (refl, refl, refl, refl, refl, refl))
+      ((row_told depth n m words).0 e)
 
   pub hf_in_row : has_row depth n m words ≡ true → hf_level (row_at beyond depth n m words) ≡ not (hf_low depth words)
-  hf_in_row e = in_row hf_level (hf_low depth words) hf_in e
+  unfolding row_of
+  hf_in_row e =
+      in_row hf_level (hf_low depth words)
+      (hf_in _ _ (ltb-true (depth / 2) words, lt-ltb (depth / 2) words) (refl, refl, refl, refl, refl, refl))
+      ((row_told depth n m words).0 e)
 
   pub pae_in_row : has_row depth n m words ≡ true → pae_level (row_at beyond depth n m words) ≡ not (pae_low n words)
-  pae_in_row e = in_row pae_level (pae_low n words) pae_in e
+  unfolding row_of
+  pae_in_row e =
+      in_row pae_level (pae_low n words)
+      (pae_in _ _ (leb-true words n, le-leb words n) (refl, refl, refl, refl, refl, refl))
+      ((row_told depth n m words).0 e)
 
   -- with a row or without, for any depth, offsets and number of words
   pub paf_by_table_lem : paf_by_table beyond depth n m words ≡ paf_low depth m words
-  unfolding paf_by_table
-  paf_by_table_lem = decided_by (has_row depth n m words) _ (paf_low depth m words) paf_in_row
+  unfolding paf_by_table row_of
+  paf_by_table_lem =
+      decided_by (has_row depth n m words) _ (paf_low depth m words)
+      (λ e. in_row paf_level (paf_low depth m words)
+      (paf_in _ _ (leb-true (depth - m) words, le-leb (depth - m) words) (refl, refl, refl, refl, refl, refl))
+      ((row_told depth n m words).0 e))
 
   pub hf_by_table_lem : hf_by_table beyond depth n m words ≡ hf_low depth words
-  unfolding hf_by_table
-  hf_by_table_lem = decided_by (has_row depth n m words) _ (hf_low depth words) hf_in_row
+  unfolding hf_by_table row_of
+  hf_by_table_lem =
+      decided_by (has_row depth n m words) _ (hf_low depth words)
+      (λ e. in_row hf_level (hf_low depth words)
+      (hf_in _ _ (ltb-true (depth / 2) words, lt-ltb (depth / 2) words) (refl, refl, refl, refl, refl, refl))
+      ((row_told depth n m words).0 e))
 
   pub pae_by_table_lem : pae_by_table beyond depth n m words ≡ pae_low n words
-  unfolding pae_by_table
-  pae_by_table_lem = decided_by (has_row depth n m words) _ (pae_low n words) pae_in_row
+  unfolding pae_by_table row_of
+  pae_by_table_lem =
+      decided_by (has_row depth n m words) _ (pae_low n words)
+      (λ e. in_row pae_level (pae_low n words)
+      (pae_in _ _ (leb-true words n, le-leb words n) (refl, refl, refl, refl, refl, refl))
+      ((row_told depth n m words).0 e))
