@@ -1,6 +1,6 @@
 -- What is turned away before any record is looked at, in the table's order. Part numbers and depths stand in plain figures, so that a definition
 -- that says another is refused here.
-use Rattle.std.specs.Prelude.{ℕ, ◌*◌, ◌≤◌, ◌<◌, Bool, true, false, cond, ◌≢◌, ◌≡◌, refl, eqb, leb, length}
+use Rattle.std.specs.Prelude.{ℕ, ◌*◌, ◌≤◌, ◌<◌, Bool, true, false, cond, ◌&&◌, ◌≢◌, ◌≡◌, refl, eqb, leb, length}
 use Rattle.std.proofs.Math.Bool.{and-false}
 use Rattle.std.proofs.Common.{sym, ◌∙◌, arith}
 use Rattle.std.proofs.Math.Path.{ap}
@@ -49,25 +49,27 @@ known_by true true mine part e = let same : mine ≡ part = cc in (refl, refl, s
 known_by true false mine part e = let z : ◌≡◌ {A = ℕ} 0 1 = cc in absurd (omega arith)
 known_by false passes mine part e = let z : ◌≡◌ {A = ℕ} 0 1 = cc in absurd (omega arith)
 
-test_by : (looked : Lookup) (row : Row) (words : ℕ) (roomy enough : Bool) (part : Part) → several row.count ≡ enough
+test_by : (looked : Lookup) (row : Row) (words : ℕ) (roomy enough : Bool) (part : Part) → (enough ≡ true → row.count ≤ 8)
     → by_part looked (λ known. cond enough (known_test known row words roomy) (Refused 13)) (Refused 1) ≡ Passed part
     → Passing part row words roomy
 unfolding known_test
-test_by (Known mine) row words roomy true part s e =
+test_by (Known mine) row words roomy true part most e =
     let all = known_by _ _ mine part e in
     let lent = both roomy _ all.0 in
     record {
       room = lent.0;
-      most = several_most row.count s;
+      most = most refl;
       sized = eqb-true _ _ lent.1 ∙ ap (λ (p : Part). row.count * depth_of p) all.2;
       tested = ap (λ (p : Part). passes_to p row row.count) (sym all.2) ∙ all.1;
     }
-test_by (Known mine) row words roomy false part s e = let z : ◌≡◌ {A = ℕ} 0 1 = cc in absurd (omega arith)
-test_by Unknown row words roomy enough part s e = let z : ◌≡◌ {A = ℕ} 0 1 = cc in absurd (omega arith)
+test_by (Known mine) row words roomy false part most e = let z : ◌≡◌ {A = ℕ} 0 1 = cc in absurd (omega arith)
+test_by Unknown row words roomy enough part most e = let z : ◌≡◌ {A = ℕ} 0 1 = cc in absurd (omega arith)
 
 pub passing : (number : ℕ) (row : Row) (words : ℕ) (roomy : Bool) (part : Part) → test_of number row words roomy ≡ Passed part → Passing part row words roomy
 unfolding test_of
-passing number row words roomy part e = test_by (part_of number) row words roomy (several row.count) part refl e
+passing number row words roomy part e =
+    let few = leb row.count 8 in
+    test_by (part_of number) row words roomy (several row.count) part (λ s. leb-true row.count 8 (both (leb 2 row.count) few s).1) e
 
 -- a part that passes 3 has the widths
 passes_widths : (part : Part) (row : Row) (n : ℕ) → passes_to part row n ≡ true → widths_to part row n ≡ true
@@ -83,6 +85,9 @@ passing_fits {part} {row} {words} eight p =
       enough = rw p.sized (omega arith);
       wide = passes_widths part row row.count p.tested;
     })
+
+each_true : {a b : Bool} → a ≡ true → b ≡ true → a && b ≡ true
+each_true e f = rw (e, f) refl
 
 -- the rows of the table
 module _ (row : Row) (words : ℕ) (roomy : Bool) where
@@ -101,7 +106,7 @@ module _ (row : Row) (words : ℕ) (roomy : Bool) where
 
     module _ (few : 2 ≤ row.count) (many : row.count ≤ 8) where
       enough : several row.count ≡ true
-      enough = simp (le-leb 2 row.count few, le-leb row.count 8 many)
+      enough = each_true (le-leb 2 row.count few) (le-leb row.count _ (omega (arith, many)))
 
       pub two_by_memory_lem : words ≢ row.count * words_in part → test_of (asked_by part) row words roomy ≡ Refused 2
       unfolding test_of known_test

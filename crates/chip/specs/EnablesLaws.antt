@@ -1,5 +1,5 @@
 -- Enables before retransmit, paper 02, order 3: which fall of RT is clean, and that every sample that is taken is remembered.
-use Rattle.std.specs.Prelude.{ℕ, Bool, true, false, not, cond, ◌⊎◌, ◌↔◌, ◌≡◌}
+use Rattle.std.specs.Prelude.{ℕ, Bool, true, false, not, cond, ◌&&◌, ◌⊎◌, ◌↔◌, ◌≡◌}
 use Rattle.std.proofs.Common.{true≢false, inl, inr, ⊎_elim}
 use Rattle.std.proofs.Math.Path.{refl}
 use Rattle.std.proofs.lemmas.Bool.{not-true}
@@ -9,7 +9,7 @@ use Rattle.pins.specs.declared.record.Pins.{Pins}
 use Rattle.chip.specs.declared.enables.Enables.{Enables}
 use Rattle.chip.specs.declared.state.State.{State}
 use Rattle.chip.specs.Advance.{running, state_after}
-use Rattle.chip.specs.Enables.{both_high, enables_after, last_fall_clean, rt_falls}
+use Rattle.chip.specs.Enables.{enables_after, last_fall_clean, rt_falls}
 use Rattle.chip.specs.Levels.{BothHigh, Fall, High, Low, Unclean}
 use Rattle.chip.specs.Reset.{cleared, master_reset, partial_reset}
 use Rattle.chip.specs.Tells.{Tells, yes, no, both, fails, four, high, high_where, low}
@@ -25,7 +25,8 @@ module _ (p : Pins) (last : Enables) where
   fall : Tells (Fall p last) (rt_falls p last)
   fall = both (high last.rt) (low p.rt)
 
-  enabled : Tells (BothHigh p last) (both_high p last)
+  -- with the levels spelt out, so that each theorem fails alone where `both_high` is another
+  enabled : Tells (BothHigh p last) (p.ren && p.wen && last.ren && last.wen)
   enabled = four (high p.ren) (high p.wen) (high last.ren) (high last.wen)
 
   pub unclean : Tells (Unclean p last) (not (last_fall_clean p last))
@@ -34,7 +35,10 @@ module _ (p : Pins) (last : Enables) where
 
   -- both ways
   pub unclean_told : Low (last_fall_clean p last) ↔ Unclean p last
-  unclean_told = let told = high_where unclean in (λ e. told.0 (simp e), λ u. not-true (last_fall_clean p last) (told.1 u))
+  unfolding last_fall_clean
+  unclean_told =
+      let by : Tells (Unclean p last) (not (last_fall_clean p last)) = unclean_by last.clean fall enabled in
+      let told = high_where by in (λ e. told.0 (simp e), λ u. not-true (last_fall_clean p last) (told.1 u))
 
   pub fall_judged : Fall p last → High (enables_after p last).clean ↔ BothHigh p last
   unfolding enables_after last_fall_clean

@@ -8,6 +8,7 @@ use Rattle.offsets.specs.Loading.{offsets_after}
 use Rattle.offsets.specs.Reading.{reading_after}
 use Rattle.pins.specs.declared.record.Pins.{Pins}
 use Rattle.sides.specs.Clocks.{read_rises, write_rises}
+use Rattle.sides.specs.Held.{held_read, held_write}
 use Rattle.sides.specs.HeldLaws.{read_held, write_held}
 use Rattle.sides.specs.Read.{ready, retransmits, sees_word}
 use Rattle.sides.specs.Write.{accepts, full}
@@ -15,6 +16,7 @@ use Rattle.chip.specs.declared.advance.Store.TheVariants.{Keep}
 use Rattle.chip.specs.declared.state.State.{State}
 use Rattle.chip.specs.Advance.{advanced, running, state_after, store_of}
 use Rattle.chip.specs.Answer.{answer_of, lines_of}
+use Rattle.chip.specs.Enables.{enables_after}
 use Rattle.chip.specs.Quiet.{clock_rises, held, quiet}
 
 -- neither clock rises
@@ -29,8 +31,19 @@ no_rise_by true read e = (e, cc)
 pub no_rise : (p : Pins) (s : State) → clock_rises p s ≡ false → NoRise p s
 no_rise p s e = let both = no_rise_by (write_rises p s.write) (read_rises p s.read) e in record { write = both.0; read = both.1 }
 
-running_held : (part : Part) (p : Pins) (fetched : ℕ) (s : State) → NoRise p s → running part p fetched s ≡ held p s
-unfolding running held offsets_after reading_after retransmits
+-- `held` spelt out
+abbrev rested : Pins → State → State
+rested p s = record {
+  started = s.started;
+  write = held_write p.wclk s.write.latest s.write.view s.write;
+  read = held_read p.rclk s.read.latest s.read;
+  offsets = s.offsets;
+  reading = s.reading;
+  enables = enables_after p s.enables;
+}
+
+running_held : (part : Part) (p : Pins) (fetched : ℕ) (s : State) → NoRise p s → running part p fetched s ≡ rested p s
+unfolding running offsets_after reading_after retransmits
 running_held part p fetched s e =
     simp (write_held (depth_of part) s.offsets.m p s.read s.write e.write, read_held s.offsets.n p fetched s.write s.read e.read, e.write, e.read)
 
@@ -42,11 +55,17 @@ nothing_stored : (part : Part) (p : Pins) (s : State) → NoRise p s → store_o
 unfolding store_of accepts
 nothing_stored part p s e = simp (e.write, and-false)
 
-pub quiet_advanced : (part : Part) (p : Pins) (fetched : ℕ) (s : State) → quiet p s ≡ true
-    → advanced part p fetched s ≡ record { state = held p s; answer = answer_of part p s; store = Keep }
+quiet_by : (part : Part) (p : Pins) (fetched : ℕ) (s after : State) → (NoRise p s → running part p fetched s ≡ after)
+    → answer_of part p after ≡ answer_of part p s → quiet p s ≡ true
+    → advanced part p fetched s ≡ record { state = after; answer = answer_of part p s; store = Keep }
 unfolding advanced state_after quiet
-quiet_advanced part p fetched s e =
+quiet_by part p fetched s after runs answers e =
     let outside = (and-eq-true_iff (p.mrs && p.prs) (not (clock_rises p s))).0 e in
     let high = (and-eq-true_iff p.mrs p.prs).0 outside.0 in
     let calm = no_rise p s (not-true (clock_rises p s) outside.1) in
-    simp (high.0, high.1, running_held part p fetched s calm, answer_held part p s, nothing_stored part p s calm)
+    simp (high.0, high.1, runs calm, answers, nothing_stored part p s calm)
+
+pub quiet_advanced : (part : Part) (p : Pins) (fetched : ℕ) (s : State) → quiet p s ≡ true
+    → advanced part p fetched s ≡ record { state = held p s; answer = answer_of part p s; store = Keep }
+unfolding held
+quiet_advanced part p fetched s = quiet_by part p fetched s (held p s) (running_held part p fetched s) (answer_held part p s)
