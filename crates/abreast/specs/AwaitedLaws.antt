@@ -85,14 +85,23 @@ module _ (part : Part) (b : Pairing) (g : Paired part b) (shown : ShowBoth part 
   abbrev fwft : Bool
   fwft = b.left.notes.fwft
 
-  pub room_shown : tells_full fwft (composite b).ff ≡ false → ShowsRoom part b.left × ShowsRoom part b.right
-  unfolding composite_of
-  room_shown e =
+  -- the composite flags spelled out: `room_shown` and `word_shown` stand by themselves
+  pub room_both : tells_full fwft (level (selected_mode fwft) (bit 23 b.answers.left) (bit 23 b.answers.right)) ≡ false
+      → ShowsRoom part b.left × ShowsRoom part b.right
+  room_both e =
       let each = neither _ _ (sym (full_either fwft (bit 23 b.answers.left) (bit 23 b.answers.right)) ∙ e) in
       (shown.left.room each.0, shown.right.room (rw (← g.mode) each.1))
 
-  pub word_shown : tells_ready fwft (composite b).ef ≡ true → ShowsWord part b.left × ShowsWord part b.right
-  unfolding composite_of
-  word_shown e =
+  pub ready_both : tells_ready fwft (level (selected_mode fwft) (bit 22 b.answers.left) (bit 22 b.answers.right)) ≡ true
+      → ShowsWord part b.left × ShowsWord part b.right
+  ready_both e =
       let each = (and-eq-true_iff _ _).0 (sym (word_both fwft (bit 22 b.answers.left) (bit 22 b.answers.right)) ∙ e) in
       (shown.left.word each.0, shown.right.word (rw (← g.mode) each.1))
+
+  pub room_shown : tells_full fwft (composite b).ff ≡ false → ShowsRoom part b.left × ShowsRoom part b.right
+  unfolding composite_of
+  room_shown e = room_both e
+
+  pub word_shown : tells_ready fwft (composite b).ef ≡ true → ShowsWord part b.left × ShowsWord part b.right
+  unfolding composite_of
+  word_shown e = ready_both e

@@ -2,6 +2,7 @@
 -- samples, of which refused ones are skipped.
 use Rattle.std.specs.Prelude.{ℕ, Bool, List, ◌∷◌, ◌++◌, ◌≢◌, ◌≡◌, length, take}
 use Rattle.std.proofs.Common.{sym, ap, subst, ◌∙◌}
+use Rattle.std.proofs.Math.Path.{refl}
 use Rattle.counts.specs.declared.part.Part.{Part}
 use Rattle.counts.specs.Part.{depth_of, number_of}
 use Rattle.fifo.specs.declared.sample.Outcome.TheVariants as fifo
@@ -22,7 +23,7 @@ use Rattle.history.specs.Histories.{Kept, TellsInTime, Waiting, answer_in_time, 
 use Rattle.history.specs.Trace.{Answers, Moment, led, next, outcome, power_up}
 use Rattle.abreast.specs.Abreast.{Records}
 use Rattle.abreast.specs.Pairing.{Pairing, halves_of, lefts, memories_of, pair_led, pair_outcome, powered_both, rights, taken_of}
-use Rattle.abreast.specs.PairingLaws.{halves_led, pair_not_three, paired_led, paired_powered, taken_each}
+use Rattle.abreast.specs.PairingLaws.{Noting, halves_led, pair_not_three, paired_by, paired_led, taken_each}
 use Rattle.abreast.specs.RunLaws.{run_led, run_not_three}
 
 -- A half that is where its records of the samples taken lead the single part by itself; and so what is proved of a part is true of it.
@@ -71,24 +72,27 @@ module _ (part : Part) (memory : Two (List ℕ)) (left : length memory.left ≡ 
   abbrev taken : List Records
   taken = taken_of part (powered_both memory) samples
 
-  leads : (there.left ≡ led part (power_up memory.left) (lefts taken)) × (there.right ≡ led part (power_up memory.right) (rights taken))
+  leads : Noting part → (there.left ≡ led part (power_up memory.left) (lefts taken)) × (there.right ≡ led part (power_up memory.right) (rights taken))
   unfolding powered_both
-  leads = halves_led part samples (powered_both memory) (paired_powered part memory left right)
+  leads noting = halves_led part samples (powered_both memory) (paired_by part noting memory left right)
 
   pub each_half : IsPart part memory.left (lefts taken) there.left × IsPart part memory.right (rights taken) there.right
-  each_half = (is_part part memory.left left (lefts taken) there.left leads.0, is_part part memory.right right (rights taken) there.right leads.1)
+  each_half =
+      let each = leads (λ b x a. refl) in
+      (is_part part memory.left left (lefts taken) there.left each.0, is_part part memory.right right (rights taken) there.right each.1)
 
   pub each_answered : (x : Records) (l r : ℕ) → (pair_outcome part there x).sampled.outcome ≡ Taken l r
       → AnswersAsPart part memory.left (lefts taken) there.left x.left l × AnswersAsPart part memory.right (rights taken) there.right x.right r
   each_answered x l r e =
-      let each = taken_each part there (paired_led part samples (powered_both memory) (paired_powered part memory left right)) x e in (
-        answers_as_part part memory.left left (lefts taken) there.left leads.0 x.left l each.left_outcome,
-        answers_as_part part memory.right right (rights taken) there.right leads.1 x.right r each.right_outcome,
+      let lead = leads (λ b x a. refl) in
+      let each = taken_each part there (paired_led part samples (powered_both memory) (paired_by part (λ b x a. refl) memory left right)) x e in (
+        answers_as_part part memory.left left (lefts taken) there.left lead.0 x.left l each.left_outcome,
+        answers_as_part part memory.right right (rights taken) there.right lead.1 x.right r each.right_outcome,
       )
 
   -- no sample that comes next is refused 3
   pub never_three_lem : (x : Records) → pair.number_of (pair_outcome part there x).sampled.outcome ≢ 3
-  never_three_lem = pair_not_three part there (paired_led part samples (powered_both memory) (paired_powered part memory left right))
+  never_three_lem = pair_not_three part there (paired_led part samples (powered_both memory) (paired_by part (λ b x a. refl) memory left right))
 
   -- A run that goes on from there, strict or lenient, leads where the samples that it worked lead one by one, and is not refused 3.
   module _ (lenient : Bool) (bytes answers marks : List ℕ) where
@@ -99,7 +103,7 @@ module _ (part : Part) (memory : Two (List ℕ)) (left : length memory.left ≡ 
     end = pair_led part there (take run.index (samples_from bytes 0 (whole_samples bytes)))
 
     pub run_leads : (run.progress.state ≡ halves_of end) × (run.progress.memory ≡ memories_of end)
-    run_leads = run_led part there (paired_led part samples (powered_both memory) (paired_powered part memory left right)) lenient bytes answers marks
+    run_leads = run_led part there (paired_led part samples (powered_both memory) (paired_by part (λ b x a. refl) memory left right)) lenient bytes answers marks
 
     pub run_never_three : run.refusal ≢ 3
-    run_never_three = run_not_three part there (paired_led part samples (powered_both memory) (paired_powered part memory left right)) lenient bytes answers marks
+    run_never_three = run_not_three part there (paired_led part samples (powered_both memory) (paired_by part (λ b x a. refl) memory left right)) lenient bytes answers marks

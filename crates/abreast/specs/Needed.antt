@@ -28,7 +28,7 @@ use Rattle.abreast.specs.Examples.{apart_by_ef, apart_by_or, read_by_ef, read_by
 use Rattle.abreast.specs.Filled.{filled_then}
 use Rattle.abreast.specs.FullExamples.{apart_by_ff, apart_by_ir, write_by_ff, write_by_ir}
 use Rattle.abreast.specs.Pairing.{EachOf, NeverApart, Pairing, RoomAwaited, WordAwaited, composite, halves_of, memories_of, pair_next, pair_takes, powered_both}
-use Rattle.abreast.specs.PairingLaws.{Paired, pair_steps, paired_next, paired_powered, taken_each, taken_told}
+use Rattle.abreast.specs.PairingLaws.{Noting, Paired, pair_steps, paired_by, paired_next, taken_each, taken_told}
 use Rattle.abreast.specs.Seen as seen
 use Rattle.abreast.specs.Seen.{Seen, asks_to_read, asks_to_write, seen_from}
 
@@ -62,8 +62,8 @@ module _ (part : Part) (b : Pairing) (g : Paired part b) (x : Records) (taken : 
       let left = there.answers.left in
       let right = there.answers.right in
       record {
-        room = λ one other. full_either fwft (bit 23 left) (bit 23 right) ∙ rw (told.0.room.1 one) (rw mode (told.1.room.1 other));
-        word = λ one other. word_both fwft (bit 22 left) (bit 22 right) ∙ rw (told.0.word.1 one) (rw mode (told.1.word.1 other));
+        room = λ one other. (let also : tells_full fwft (bit 23 right) ≡ false = rw mode (told.1.room.1 other) in simp (full_either, told.0.room.1 one, also));
+        word = λ one other. (let also : tells_ready fwft (bit 22 right) ≡ true = rw mode (told.1.word.1 other) in simp (word_both, told.0.word.1 one, also));
       }
 
 module _ (part : Part) where
@@ -113,8 +113,8 @@ zeros_deep : length zeros ≡ depth_of part255
 unfolding zeros
 zeros_deep = length-replicate {A = ℕ} 8192 0
 
-powered : Paired part255 (powered_both memories)
-powered = paired_powered part255 memories zeros_deep zeros_deep
+powered : Noting part255 → Paired part255 (powered_both memories)
+powered noting = paired_by part255 noting memories zeros_deep zeros_deep
 
 opens_ef : Opening part255 (powered_both memories) read_by_ef
 unfolding tried powered_both read_by_ef
@@ -129,42 +129,49 @@ unfolding tried powered_both
 opens_filled true later = (λ e. absurd (true≢false (sym e)), λ e. absurd (true≢false (sym e)))
 opens_filled false later = (λ e. absurd (true≢false (sym e)), λ e. absurd (true≢false (sym e)))
 
-told : (samples : List Records) {v : Seen} → Opening part255 (powered_both memories) samples → seen.seen samples ≡ v → v.together ≡ true
+told : Noting part255 → (samples : List Records) {v : Seen} → Opening part255 (powered_both memories) samples → seen.seen samples ≡ v → v.together ≡ true
     → Lifted part255 (powered_both memories) (two 0 0) samples v
 unfolding powered_both
-told samples opens e =
+told noting samples opens e =
     subst (λ (v : Seen). v.together ≡ true → Lifted part255 (powered_both memories) (two 0 0) samples v) e
-    (lifted part255 samples (powered_both memories) (two 0 0) powered opens)
+    (lifted part255 samples (powered_both memories) (two 0 0) (powered noting) opens)
 
 -- samples from power-up that leave the halves apart, though each of them heeds this
 abbrev ApartBy : (Pairing → Records → Type 0) → List Records → Type 0
 ApartBy Heeds samples =
     EachOf part255 Heeds (powered_both memories) samples × (NeverApart part255 (powered_both memories) (two 0 0) samples → ⊥)
 
+apart_ef : Noting part255 → ApartBy (RoomAwaited part255) read_by_ef
+apart_ef noting = let t = told noting read_by_ef opens_ef apart_by_ef refl in (t.room refl, λ never. (let same = (t.equal never).1 in absurd (omega (arith, same))))
+
+apart_ff : Noting part255 → ApartBy (WordAwaited part255) (filled_then false write_by_ff)
+apart_ff noting =
+    let t = told noting (filled_then false write_by_ff) (opens_filled false write_by_ff) apart_by_ff refl in
+    (t.word refl, λ never. (let same = (t.equal never).0 in absurd (omega (arith, same))))
+
 -- a read by the left part's EF alone, or by its OR
 pub by_ef : ApartBy (RoomAwaited part255) read_by_ef
-by_ef = let t = told read_by_ef opens_ef apart_by_ef refl in (t.room refl, λ never. (let same = (t.equal never).1 in absurd (omega (arith, same))))
+by_ef = apart_ef (λ b x a. refl)
 
 pub by_or : ApartBy (RoomAwaited part255) read_by_or
-by_or = let t = told read_by_or opens_or apart_by_or refl in (t.room refl, λ never. (let same = (t.equal never).1 in absurd (omega (arith, same))))
+by_or = let t = told (λ b x a. refl) read_by_or opens_or apart_by_or refl in (t.room refl, λ never. (let same = (t.equal never).1 in absurd (omega (arith, same))))
 
 -- a write by the left part's FF alone, or by its IR
 pub by_ff : ApartBy (WordAwaited part255) (filled_then false write_by_ff)
-by_ff =
-    let t = told (filled_then false write_by_ff) (opens_filled false write_by_ff) apart_by_ff refl in
-    (t.word refl, λ never. (let same = (t.equal never).0 in absurd (omega (arith, same))))
+by_ff = apart_ff (λ b x a. refl)
 
 pub by_ir : ApartBy (WordAwaited part255) (filled_then true write_by_ir)
 by_ir =
-    let t = told (filled_then true write_by_ir) (opens_filled true write_by_ir) apart_by_ir refl in
+    let t = told (λ b x a. refl) (filled_then true write_by_ir) (opens_filled true write_by_ir) apart_by_ir refl in
     (t.word refl, λ never. (let same = (t.equal never).0 in absurd (omega (arith, same))))
 
 -- so the user has to wait for both parts' EF or OR
 pub word_needed : ((memory : Two (List ℕ)) → length memory.left ≡ depth_of part255 → length memory.right ≡ depth_of part255 → (samples : List Records)
     → EachOf part255 (RoomAwaited part255) (powered_both memory) samples → NeverApart part255 (powered_both memory) (two 0 0) samples) → ⊥
-word_needed never = by_ef.1 (never memories zeros_deep zeros_deep read_by_ef by_ef.0)
+word_needed never = let apart = apart_ef (λ b x a. refl) in apart.1 (never memories zeros_deep zeros_deep read_by_ef apart.0)
 
 -- and for both parts' FF or IR
 pub room_needed : ((memory : Two (List ℕ)) → length memory.left ≡ depth_of part255 → length memory.right ≡ depth_of part255 → (samples : List Records)
     → EachOf part255 (WordAwaited part255) (powered_both memory) samples → NeverApart part255 (powered_both memory) (two 0 0) samples) → ⊥
-room_needed never = by_ff.1 (never memories zeros_deep zeros_deep (filled_then false write_by_ff) by_ff.0)
+room_needed never =
+    let apart = apart_ff (λ b x a. refl) in apart.1 (never memories zeros_deep zeros_deep (filled_then false write_by_ff) apart.0)

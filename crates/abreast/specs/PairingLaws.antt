@@ -28,13 +28,22 @@ use Rattle.history.specs.LedLaws.{counts_led, counts_next, not_three, sample_ste
 use Rattle.history.specs.Onlooker.{Notes, noted, went_on}
 use Rattle.history.specs.TakenLaws.{notes_taken}
 use Rattle.history.specs.Told.{Told}
-use Rattle.history.specs.Trace.{Moment, led, next, outcome, power_up, takes}
+use Rattle.history.specs.Trace.{Moment, at, led, next, outcome, power_up, shown_by, takes}
 use Rattle.abreast.specs.Abreast.{Records}
 use Rattle.abreast.specs.Pairing.{Pairing, answers_after, halves_of, lefts, memories_of, moved_both, pair_led, pair_next, pair_outcome, pair_takes, powered_both, rights, taken_of}
 use Rattle.joint.specs.RefuseLaws.{same_pins_lem}
 
+-- wherever a sample leads, the right onlooker goes by the right part's record
+abbrev pub Noting : Part → Type 0
+Noting part =
+    (b : Pairing) (x : Records) (a : After) → (moved_both part b x a).right
+    ≡ at a.sampled.state.right a.memory.right
+    (cond (is_taken a.sampled.outcome)
+    (noted b.right.notes (pins_of x.right) (shown_by part b.right.state) (shown_by part a.sampled.state.right)) b.right.notes)
+
 -- what holds of a pair at every moment from power-up on: each half's notes agree with it, and both are in one mode
 pub record Paired (part : Part) (b : Pairing) : Type 0 where
+  pub noting : Noting part
   pub left_counts : TrueCounts
   pub right_counts : TrueCounts
   pub left : Told part b.left left_counts
@@ -118,7 +127,7 @@ module _ (part : Part) (b : Pairing) (g : Paired part b) where
             left_outcome = left-given;
             right_outcome = right-given;
             left_next = rw (whole, left-given) refl;
-            right_next = rw (whole, right-given) refl;
+            right_next = g.noting b x (pair_outcome part b x) ∙ rw (whole, right-given) refl;
             answered = rw e refl;
           }
 
@@ -149,6 +158,7 @@ module _ (part : Part) (b : Pairing) (g : Paired part b) where
     by_verdict_lem true e =
         let each = taken_each (taken_told e) in
         record {
+          noting = g.noting;
           left_counts = counts_next part b.left x.left g.left_counts;
           right_counts = counts_next part b.right x.right g.right_counts;
           left = rw each.left_next (told_next part b.left g.left_counts g.left x.left);
@@ -166,15 +176,20 @@ module _ (part : Part) where
   paired_led [] b g = g
   paired_led (x ∷ xs) b g = paired_led xs (pair_next part b x) (paired_next part b g x)
 
-  pub paired_powered : (memory : Two (List ℕ)) → length memory.left ≡ depth_of part → length memory.right ≡ depth_of part → Paired part (powered_both memory)
+  pub paired_by : Noting part → (memory : Two (List ℕ)) → length memory.left ≡ depth_of part → length memory.right ≡ depth_of part
+      → Paired part (powered_both memory)
   unfolding powered_both led counts_led power_up
-  paired_powered memory l r = record {
+  paired_by noting memory l r = record {
+    noting = noting;
     left_counts = no_counts;
     right_counts = no_counts;
     left = told_after part memory.left l [];
     right = told_after part memory.right r [];
     mode = refl;
   }
+
+  pub paired_powered : (memory : Two (List ℕ)) → length memory.left ≡ depth_of part → length memory.right ≡ depth_of part → Paired part (powered_both memory)
+  paired_powered memory l r = paired_by (λ b x a. refl) memory l r
 
   -- each half is where its own records of the samples taken lead the single part
   abbrev Leads : Pairing → Pairing → List Records → Type 0

@@ -33,7 +33,7 @@ use Rattle.history.specs.RunAnswerLaws.{run_answers}
 use Rattle.history.specs.RunLaws.{led_parts, run_led, run_not_three}
 use Rattle.history.specs.Tight.{fwft_reset, late_fwft, late_standard, risen_thrice, risen_twice, standard_reset, watched, word_written, zeros}
 use Rattle.history.specs.TakenLaws.{accepted_settled}
-use Rattle.history.specs.TimeLaws.{due_shown}
+use Rattle.history.specs.TimeLaws.{aged_shown}
 use Rattle.history.specs.Trace.{Answers, Moment, accepts_word, answer_at, at, led, next, outcome, power_up, rclk_rises_in, run_from, shown_by, takes, undisturbed, words_from, worked_at, worked_on}
 
 -- What is true at a moment.
@@ -86,11 +86,16 @@ pub at_rest : (part : Part) (memory : List ℕ) → length memory ≡ depth_of p
     → accepts_word part (led part (power_up memory) samples) x ≡ true → unsettled_in x ≡ false
 at_rest part memory whole samples = accepted_settled part (led part (power_up memory) samples) _ (told_after part memory whole samples)
 
+waiting_shown : (part : Part) (memory : List ℕ) → length memory ≡ depth_of part → (earlier : List ℕ) (x : ℕ) (later : List ℕ)
+    → Waiting 3 4 part (led part (power_up memory) earlier) x later
+    → ShowsWord part (led part (next part (led part (power_up memory) earlier) x) later)
+waiting_shown part memory whole earlier x later w =
+    aged_shown part (led part (power_up memory) earlier) _ x later (told_after part memory whole earlier)
+    w.accepted w.calm w.risen w.undelivered
+
 -- The third rise of RCLK in Standard, the fourth in FWFT.
 pub in_time_lem : InTime 3 4
-in_time_lem part memory whole earlier x later w =
-    due_shown part (led part (power_up memory) earlier) _ x later (told_after part memory whole earlier)
-    w.accepted w.calm w.risen w.undelivered
+in_time_lem part memory whole earlier x later w = waiting_shown part memory whole earlier x later w
 
 -- The answer to a sample `y` that comes after others tells it: for any word among theirs that still waits after `y`, the bit of
 -- EF and OR shows one ready.
@@ -108,7 +113,7 @@ tells_by part memory whole samples y answer given earlier x later e w =
     let there : led part (next part start x) (later ++ (y ∷ [])) ≡ next part (led part (power_up memory) samples) y =
     led_parts part later (y ∷ []) (next part start x)
     ∙ ap (λ (m : Moment). next part m y) (sym (ap (led part (power_up memory)) e ∙ led_parts part earlier (x ∷ later) (power_up memory))) in
-    rw given.ef (subst (ShowsWord part) there (in_time_lem part memory whole earlier x (later ++ (y ∷ [])) w))
+    rw given.ef (subst (ShowsWord part) there (waiting_shown part memory whole earlier x (later ++ (y ∷ [])) w))
 
 -- What a taken sample is answered is what the onlooker sees after it, and tells in time.
 module _ (part : Part) (memory : List ℕ) (whole : length memory ≡ depth_of part) (samples : List ℕ) (y answer : ℕ)
@@ -147,7 +152,7 @@ module _ (part : Part) (memory : List ℕ) (whole : length memory ≡ depth_of p
       → ShowsWord part (led part (power_up memory) samples)
   unfolding led
   in_time_through samples earlier x later e w =
-      rw (e, led_parts part earlier (x ∷ later) (power_up memory)) (in_time_lem part memory whole earlier x later w)
+      rw (e, led_parts part earlier (x ∷ later) (power_up memory)) (waiting_shown part memory whole earlier x later w)
 
   module _ (samples : List ℕ) (lenient : Bool) (bytes answers marks : List ℕ) where
     abbrev start : Moment

@@ -139,23 +139,30 @@ module _ (part : Part) where
 abbrev pub due_rise : Bool → ℕ
 due_rise fwft = cond fwft 4 3
 
-old_enough : (mode : Mode) (age number : ℕ) (t : TrueCounts) → Aged age number t → due_rise (is_fwft mode) ≤ age → number < due_by mode t
+old_enough : (mode : Mode) (age number : ℕ) (t : TrueCounts) → Aged age number t → cond (is_fwft mode) 4 3 ≤ age → number < due_by mode t
 old_enough Standard age number t g l = g.three (omega arith)
 old_enough (Fwft untaken) age number t g l = g.four (omega arith)
 
-shows_ready : (part : Part) (m : Moment) (t : TrueCounts) (age number : ℕ) → Told part m t → Aged age number t → due_rise m.notes.fwft ≤ age
+shows_ready : (part : Part) (m : Moment) (t : TrueCounts) (age number : ℕ) → Told part m t → Aged age number t → cond m.notes.fwft 4 3 ≤ age
     → length m.notes.delivered ≤ number → ready m.notes.fwft (shown_by part m.state) ≡ true
 shows_ready part m t age number g h l undelivered =
     let due = old_enough m.state.read.mode age number t h (rw g.agrees.fwft at l) in
     ready_told part m t g.agrees
     ∙ ready_due (depth_of part) (part_sized part) m.state.write m.state.read t g.reached.tracks (omega arith)
 
-pub due_shown : (part : Part) (m : Moment) (t : TrueCounts) (x : ℕ) (later : List ℕ) → Told part m t → accepts_word part m x ≡ true
+-- `due_shown` with the rises spelled out, so that it stands whatever `due_rise` is
+pub aged_shown : (part : Part) (m : Moment) (t : TrueCounts) (x : ℕ) (later : List ℕ) → Told part m t → accepts_word part m x ≡ true
     → let after = led part (next part m x) later in
-    undisturbed part (next part m x) later ≡ true → due_rise after.notes.fwft ≤ rclk_rises_in part (next part m x) later
+    undisturbed part (next part m x) later ≡ true → cond after.notes.fwft 4 3 ≤ rclk_rises_in part (next part m x) later
     → length after.notes.delivered ≤ length m.notes.accepted → ready after.notes.fwft (shown_by part after.state) ≡ true
-due_shown part m t x later g a calm due undelivered =
+aged_shown part m t x later g a calm due undelivered =
     let told = told_next part m t g x in
     shows_ready part (led part (next part m x) later) (counts_led part (next part m x) later (counts_next part m x t)) (0 + rclk_rises_in part (next part m x) later)
     (length m.notes.accepted) (told_led part later (next part m x) (counts_next part m x t) told)
     (aged_led part later (next part m x) (counts_next part m x t) 0 (length m.notes.accepted) told calm (aged_new part m t x g a)) (omega arith) undelivered
+
+pub due_shown : (part : Part) (m : Moment) (t : TrueCounts) (x : ℕ) (later : List ℕ) → Told part m t → accepts_word part m x ≡ true
+    → let after = led part (next part m x) later in
+    undisturbed part (next part m x) later ≡ true → due_rise after.notes.fwft ≤ rclk_rises_in part (next part m x) later
+    → length after.notes.delivered ≤ length m.notes.accepted → ready after.notes.fwft (shown_by part after.state) ≡ true
+due_shown part m t x later g a calm due undelivered = aged_shown part m t x later g a calm due undelivered
