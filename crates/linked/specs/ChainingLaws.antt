@@ -10,7 +10,7 @@ use Rattle.std.proofs.Math.ListN.{length-replicate}
 use borrow.Author.Tests.{eq-eqb, eqb-true}
 use Rattle.rows.specs.declared.row.Row.{Row}
 use Rattle.rows.specs.Row.{empty_row}
-use Rattle.rows.specs.Step.{Moving, chain_refusal, chain_stepped, moved_to, state_of, took, turned_away, wired_to}
+use Rattle.rows.specs.Step.{After, Moving, chain_refusal, chain_stepped, moved_to, state_of, took, turned_away, wired_to}
 use Rattle.chip.specs.declared.state.State.{State}
 use Rattle.chip.specs.Reset.{powered_up}
 use Rattle.counts.specs.declared.part.Part.{Part}
@@ -24,7 +24,7 @@ use Rattle.pins.specs.Record.{pins_of}
 use Rattle.refusals.specs.Refuse.{refusal_of}
 use Rattle.views.specs.TrueCounts.{TrueCounts, no_counts}
 use Rattle.history.specs.LedLaws.{counts_led, counts_next, told_after, told_next}
-use Rattle.history.specs.Onlooker.{blank, noted}
+use Rattle.history.specs.Onlooker.{Notes, blank, noted}
 use Rattle.history.specs.TakenLaws.{moved_on, taken_next_lem, takes_free}
 use Rattle.history.specs.Told.{Told}
 use Rattle.history.specs.Trace.{Moment, at, led, next, power_up, shown_by, takes}
@@ -36,8 +36,15 @@ use Rattle.linked.specs.RecordLaws.{record_pins}
 use Rattle.linked.specs.Taken.{taken_after}
 use Rattle.linked.specs.WiringLaws.{wired_narrow}
 
+-- wherever a sample leads, each onlooker goes by the pins of his own part
+abbrev pub Noting : Part → Type 0
+Noting part =
+    (c : Chain) (x : Links) (a : After) (i : ℕ) → (moved_all part c x a).notes i
+    ≡ cond (is_taken a.outcome) (noted (c.notes i) (wired_to part x c.row i) (seen_at part c.row i) (seen_at part a.row i)) (c.notes i)
+
 -- what holds of a chain at every moment from power-up on: so many parts, a memory for each, and each part's notes agree with it
 pub record Chained (part : Part) (n : ℕ) (c : Chain) : Type 0 where
+  pub noting : Noting part
   pub count : c.row.count ≡ n
   pub few : n ≤ 8
   pub places : length c.row.states ≡ 8
@@ -70,6 +77,12 @@ module _ (part : Part) (c : Chain) (x : Links) where
       ≡ noted (c.notes i) (wired_to part x c.row i) (seen_at part c.row i) (seen_at part (chain_next part c x).row i)
   unfolding chain_next chain_takes
   notes_after e i = rw e refl
+
+  pub notes_by : Noting part → chain_takes part c x ≡ true → (i : ℕ)
+      → (chain_next part c x).notes i
+      ≡ noted (c.notes i) (wired_to part x c.row i) (seen_at part c.row i) (seen_at part (chain_next part c x).row i)
+  unfolding chain_next chain_takes
+  notes_by noting e i = noting c x (chain_outcome part c x) i ∙ rw e refl
 
   pub taken_after_lem : chain_takes part c x ≡ true → (i : ℕ)
       → (chain_next part c x).taken i ≡ taken_after (c.notes i) (wired_to part x c.row i) (seen_at part c.row i) (c.taken i)
@@ -118,7 +131,9 @@ module _ (part : Part) (n : ℕ) (c : Chain) (g : Chained part n c) (x : Links) 
     part_moved =
         let state = moved.state i (omega (arith, g.count)) in
         let words = moved.words i (omega (arith, g.count)) in
+        let a = took part x.pins (moved_to part x c.row c.memory c.row.count) in
         ap (λ (d : Chain). moment_of part d i) (taken_moves part c x e)
+        ∙ ap (λ (b : Notes). at (state_of a.row i) (own_words part a.memory i) b) (g.noting c x a i)
         ∙ (λ j. at (state j) (words j) (noted (c.notes i) pins (shown_by part (state_of c.row i)) (shown_by part (state j))))
 
     pub part_next : moment_of part (chain_next part c x) i ≡ next part here (record_of pins)
@@ -129,6 +144,7 @@ module _ (part : Part) (n : ℕ) (c : Chain) (g : Chained part n c) (x : Links) 
   taken_chained =
       let moves = taken_moves part c x e in
       record {
+        noting = g.noting;
         count = ap (λ (d : Chain). d.row.count) moves ∙ moved.count ∙ g.count;
         few = g.few;
         places = ap (λ (d : Chain). length d.row.states) moves ∙ moved.places ∙ g.places;
@@ -156,9 +172,10 @@ module _ (part : Part) (n : ℕ) where
     unfolding moment_of powered_row power_up empty_row
     begins i l = ap (λ (s : State). at s (own_words part memory i) blank) (get_or-replicate 8 i powered_up powered_up (omega arith))
 
-    pub chained_powered : Chained part n (powered_row n memory)
+    pub chained_from : Noting part → Chained part n (powered_row n memory)
     unfolding powered_row empty_row led counts_led
-    chained_powered = record {
+    chained_from noting = record {
+      noting = noting;
       count = refl;
       few = few;
       places = length-replicate 8 powered_up;
@@ -166,6 +183,9 @@ module _ (part : Part) (n : ℕ) where
       counts = λ i. no_counts;
       told = λ i l. rw (begins i l) (told_after part (own_words part memory i) (own_length part memory i n whole l) []);
     }
+
+    pub chained_powered : Chained part n (powered_row n memory)
+    chained_powered = chained_from (λ c x a i. refl)
 
   -- each part is where its own records of the samples taken lead the single part
   abbrev Leads : ℕ → Chain → Chain → List ℕ → Type 0

@@ -15,7 +15,7 @@ use Rattle.pins.specs.Record.{word}
 use Rattle.history.specs.Onlooker.{Notes, accepts, blank, outside, reads}
 use Rattle.history.specs.Trace.{shown_by}
 use Rattle.linked.specs.Chaining.{Chain, chain_next, chain_takes, moment_of, seen_at}
-use Rattle.linked.specs.ChainingLaws.{Chained, free_parts, notes_after, taken_after_lem}
+use Rattle.linked.specs.ChainingLaws.{Chained, free_parts, notes_by, taken_after_lem}
 use Rattle.linked.specs.PassedLaws.{Passed, started_each}
 use Rattle.linked.specs.Taken.{Plain}
 use Rattle.linked.specs.TransferLaws.{Joined, in_both, levels_noted, reset_accepts, reset_reads, stay_equal}
@@ -109,12 +109,12 @@ module _ (part : Part) (n : ℕ) (c : Chain) (h : Linked part n c) (x : Links) (
 
     pub levels_next : ((chain_next part c x).notes k).rclk ≡ ((chain_next part c x).notes (suc k)).wclk
     levels_next =
-        ap (λ (b : Notes). b.rclk) (notes_after part c x e k) ∙ (levels_noted (c.notes k) (pins k) _ _).1 ∙ joined.clock
-        ∙ sym (ap (λ (b : Notes). b.wclk) (notes_after part c x e (suc k)) ∙ (levels_noted (c.notes (suc k)) (pins (suc k)) _ _).0)
+        ap (λ (b : Notes). b.rclk) (notes_by part c x h.chained.noting e k) ∙ (levels_noted (c.notes k) (pins k) _ _).1 ∙ joined.clock
+        ∙ sym (ap (λ (b : Notes). b.wclk) (notes_by part c x h.chained.noting e (suc k)) ∙ (levels_noted (c.notes (suc k)) (pins (suc k)) _ _).0)
 
     pub handed_next : (chain_next part c x).taken k ≡ ((chain_next part c x).notes (suc k)).accepted
     unfolding wired_to wired
     handed_next =
         taken_after_lem part c x e k
         ∙ stay_equal _ _ _ _ _ _ joined (c.taken k) (seen_at part (chain_next part c x).row (suc k)) (h.handed k l) both_outside word_given
-        ∙ sym (ap (λ (b : Notes). b.accepted) (notes_after part c x e (suc k)))
+        ∙ sym (ap (λ (b : Notes). b.accepted) (notes_by part c x h.chained.noting e (suc k)))

@@ -19,7 +19,7 @@ use Rattle.pins.specs.declared.record.Pins.{Pins}
 use Rattle.history.specs.TakenLaws.{moved_on}
 use Rattle.history.specs.Trace.{Moment}
 use Rattle.linked.specs.Chaining.{Chain, Narrow, chain_led, chain_next, chain_takes, moment_of, powered_row, seen_at}
-use Rattle.linked.specs.ChainingLaws.{chained_next, chained_powered, part_moved, refused_none, taken_after_lem}
+use Rattle.linked.specs.ChainingLaws.{Noting, chained_from, chained_next, part_moved, refused_none, taken_after_lem}
 use Rattle.linked.specs.Linked.{Linked, Running, handed_next, levels_next, none_low, passed, unused_resets}
 use Rattle.linked.specs.OnePartLaws.{plain_anew, plain_moved}
 use Rattle.linked.specs.PassedLaws.{started_each}
@@ -109,12 +109,15 @@ module _ (part : Part) (n : ℕ) where
   linked_led [] narrow c h = h
   linked_led (x ∷ xs) narrow c h = linked_led xs narrow.1 (chain_next part c x) (linked_next c h x narrow.0)
 
-  pub linked_powered : (memory : List ℕ) → length memory ≡ n * depth_of part → 1 ≤ n → n ≤ 8 → Linked part n (powered_row n memory)
+  pub linked_from : Noting part → (memory : List ℕ) → length memory ≡ n * depth_of part → 1 ≤ n → n ≤ 8 → Linked part n (powered_row n memory)
   unfolding powered_row empty_row
-  linked_powered memory whole some few = record {
+  linked_from noting memory whole some few = record {
     some = some;
-    chained = chained_powered part n memory whole few;
+    chained = chained_from part n memory whole few noting;
     levels = λ k l. refl;
     handed = λ k l. refl;
     stage = inl (λ i l. (get_or-replicate 8 i powered_up powered_up (omega arith), refl, refl));
   }
+
+  pub linked_powered : (memory : List ℕ) → length memory ≡ n * depth_of part → 1 ≤ n → n ≤ 8 → Linked part n (powered_row n memory)
+  linked_powered memory whole some few = linked_from (λ c x a i. refl) memory whole some few

@@ -22,8 +22,9 @@ use Rattle.counts.specs.Part.{depth_of, number_of}
 use Rattle.counts.specs.PartLaws.{own_number}
 use Rattle.links.specs.declared.record.Links.{Links}
 use Rattle.linked.specs.Chaining.{Chain, chain_led, chain_next, chain_outcome, powered_row}
+use Rattle.linked.specs.ChainingLaws.{Noting}
 use Rattle.linked.specs.Linked.{Linked}
-use Rattle.linked.specs.LinkedLaws.{linked_next, linked_powered}
+use Rattle.linked.specs.LinkedLaws.{linked_from, linked_next}
 use Rattle.linked.specs.Listed.{Listed, Parts, called, powered_parts, sample_of, worked_in}
 use Rattle.linked.specs.Listed.Call.{OneSample}
 use Rattle.linked.specs.RefusedLaws.{all_pass}
@@ -36,18 +37,22 @@ past_stays part c x i l =
     (moved_later part x c.row c.memory c.row.count i l) refl
 
 module _ (part : Part) (n : ℕ) where
-  -- A list as at power-up is worked as such a row.
-  pub listed_powered : (memory : List ℕ) → length memory ≡ n * depth_of part → 2 ≤ n → n ≤ 8
+  pub listed_from : Noting part → (memory : List ℕ) → length memory ≡ n * depth_of part → 2 ≤ n → n ≤ 8
       → Listed part n (powered_parts n memory) (powered_row n memory)
   unfolding powered_parts powered_row empty_row
-  listed_powered memory whole several few = record {
+  listed_from noting memory whole several few = record {
     several = several;
-    linked = linked_powered part n memory whole (omega (arith, several)) few;
+    linked = linked_from part n noting memory whole (omega (arith, several)) few;
     past = λ i l small. get_or-replicate 8 i powered_up powered_up small;
     many = length-replicate n powered_up;
     row = row_powered n;
     words = refl;
   }
+
+  -- A list as at power-up is worked as such a row.
+  pub listed_powered : (memory : List ℕ) → length memory ≡ n * depth_of part → 2 ≤ n → n ≤ 8
+      → Listed part n (powered_parts n memory) (powered_row n memory)
+  listed_powered memory whole several few = listed_from (λ c x a i. refl) memory whole several few
 
   module _ (l : Parts) (c : Chain) (h : Listed part n l c) where
     -- 13 is passed each time, and so are 1, 2 and 3

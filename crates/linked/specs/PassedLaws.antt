@@ -7,7 +7,6 @@ use Rattle.rows.specs.declared.row.Row.{Row}
 use Rattle.rows.specs.Step.{chain_refusal, judged_to, started_to, state_of, wired_to}
 use Rattle.rows.specs.StepLaws.{all_at}
 use Rattle.counts.specs.declared.part.Part.{Part}
-use Rattle.counts.specs.Both.{both}
 use Rattle.links.specs.declared.record.Links.{Links}
 use Rattle.links.specs.Record.{plain}
 use Rattle.links.specs.Refuse.{fourteen, least, whole_refusal}

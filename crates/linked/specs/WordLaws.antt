@@ -22,6 +22,11 @@ none_inside : (part : Part) (memory : List ℕ) → inside part (at powered_up m
 unfolding inside powered_up cleared shown_by lines_of ready sees_word words_from
 none_inside part memory = refl
 
+-- the words inside the parts up to one stand before those inside the earlier ones
+abbrev pub Behind : Part → Type 0
+Behind part =
+    (c : Chain) (k : ℕ) → inside_from part c (suc k) ≡ inside part (moment_of part c (suc k)) ++ inside_from part c k
+
 module _ (part : Part) (n : ℕ) (c : Chain) (h : Linked part n c) where
   -- of each part: the words accepted are those taken, and then what is inside it
   part_words : (i : ℕ) → i < n → (c.notes i).accepted ≡ c.taken i ++ inside part (moment_of part c i)
@@ -35,11 +40,16 @@ module _ (part : Part) (n : ℕ) (c : Chain) (h : Linked part n c) where
       (λ (run : Running part n c). words part (moment_of part c i) (h.chained.counts i) (h.chained.told i l) (c.taken i) (run i l).1)
       h.stage
 
+  pub words_by : Behind part → (k : ℕ) → k < n → (c.notes 0).accepted ≡ c.taken k ++ inside_from part c k
+  unfolding inside_from
+  words_by behind zero l = part_words 0 l
+  words_by behind (suc k) l =
+      words_by behind k (omega arith)
+      ∙ ap (λ (taken : List ℕ). taken ++ inside_from part c k) (h.handed k l ∙ part_words (suc k) l)
+      ∙ append_assoc (c.taken (suc k)) (inside part (moment_of part c (suc k))) (inside_from part c k)
+      ∙ ap (λ (within : List ℕ). c.taken (suc k) ++ within) (sym (behind c k))
+
   -- of the parts from the first to part k: the words accepted by the first are those taken from part k, and then what is inside them
   pub all_words : (k : ℕ) → k < n → (c.notes 0).accepted ≡ c.taken k ++ inside_from part c k
   unfolding inside_from
-  all_words zero l = part_words 0 l
-  all_words (suc k) l =
-      all_words k (omega arith)
-      ∙ ap (λ (taken : List ℕ). taken ++ inside_from part c k) (h.handed k l ∙ part_words (suc k) l)
-      ∙ append_assoc (c.taken (suc k)) (inside part (moment_of part c (suc k))) (inside_from part c k)
+  all_words k l = words_by (λ c k. refl) k l
