@@ -41,6 +41,10 @@ Noting part =
     (cond (is_taken a.sampled.outcome)
     (noted b.right.notes (pins_of x.right) (shown_by part b.right.state) (shown_by part a.sampled.state.right)) b.right.notes)
 
+-- it always does: `noting` asks nothing of a pair that the other fields do not
+pub always_noting : (part : Part) → Noting part
+always_noting part b x a = refl
+
 -- what holds of a pair at every moment from power-up on: each half's notes agree with it, and both are in one mode
 pub record Paired (part : Part) (b : Pairing) : Type 0 where
   pub noting : Noting part

@@ -42,6 +42,10 @@ Noting part =
     (c : Chain) (x : Links) (a : After) (i : ℕ) → (moved_all part c x a).notes i
     ≡ cond (is_taken a.outcome) (noted (c.notes i) (wired_to part x c.row i) (seen_at part c.row i) (seen_at part a.row i)) (c.notes i)
 
+-- each always does: `noting` asks nothing of a chain that the other fields do not
+pub always_noting : (part : Part) → Noting part
+always_noting part c x a i = refl
+
 -- what holds of a chain at every moment from power-up on: so many parts, a memory for each, and each part's notes agree with it
 pub record Chained (part : Part) (n : ℕ) (c : Chain) : Type 0 where
   pub noting : Noting part
