@@ -10,8 +10,7 @@ pub work-requires : goal.work-requires
 work-requires c =
     let a = c.args in
     let eight : length a.row.states ≡ 8 = search rules in
-    let p = passing _ _ _ _ _ (sym c.test-tested.ensures ∙ c.in-Passed.is) in
-    (
+    let p = passing _ _ _ _ _ (sym c.test-tested.ensures ∙ c.in-Passed.is) in (
       passing_fits eight p,
       room_told a.lenient a.trace.now (started a.row a.memory.now a.answers.now a.marks.now) (sym c.is_roomy-roomy.ensures ∙ p.room),
     )
