@@ -17,17 +17,6 @@ returns-in_default c =
     c.look_up-looked_up.ensures c.in_default.is)
     c.end_at.ensures
 
-pub work-requires : goal.work-requires
-work-requires c =
-    let a = c.args in
-    let wide = tested_both_widths _ a.state (sym c.passes_test.ensures ∙ c.if-passes_test.true) in (
-      wide.0,
-      wide.1,
-      room_told a.lenient a.trace.now (started a.state (two a.left_memory.now a.right_memory.now) a.answers.now a.marks.now)
-          c.in-Known.known
-          (both_told c.are_depth-sized.ensures c.is_roomy.ensures c.if-sized-is_roomy.true),
-    )
-
 pub returns-then-passes_test : goal.returns-then-passes_test
 returns-then-passes_test c =
     let a = c.args in
@@ -56,3 +45,14 @@ returns-else-sized-is_roomy c =
     c.look_up-looked_up.ensures _ c.in-Known.is
     (both_told c.are_depth-sized.ensures c.is_roomy.ensures c.if-sized-is_roomy.false))
     c.end_at-else-sized-is_roomy.ensures
+
+pub work-requires : goal.work-requires
+work-requires c =
+    let a = c.args in
+    let wide = tested_both_widths _ a.state (sym c.passes_test.ensures ∙ c.if-passes_test.true) in (
+      wide.0,
+      wide.1,
+      room_told a.lenient a.trace.now (started a.state (two a.left_memory.now a.right_memory.now) a.answers.now a.marks.now)
+          c.in-Known.known
+          (both_told c.are_depth-sized.ensures c.is_roomy.ensures c.if-sized-is_roomy.true),
+    )
