@@ -1,4 +1,4 @@
--- Where a reader stands on a trace, and what it finds there. A `RefT` is a reference: the place of the bytes, and the bytes.
+-- Where a reader stands on a trace, and what it finds there. A `Bor` is a reference: the place of the bytes, and the bytes.
 use Rattle.std.specs.Prelude.{ℕ, List, ◌≡◌}
 use Rattle.std.specs.Borrow.{Bor}
 use Rattle.pins.specs.Trace.{Reads}

@@ -33,7 +33,7 @@ pub fn read<'a>(reader: Reader<'a>) -> Record
     pins::trace::record_at(reader.trace, reader.index)
 }
 
-// For callers that hold a plain slice: no reader in their own code, so the checker covers them.
+// For callers that hold a plain slice and want no reader of their own.
 pub fn record_of(trace: &[u8], index: usize) -> Record
     ensures { Reads trace.now index result }
 {
