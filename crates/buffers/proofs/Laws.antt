@@ -5,6 +5,7 @@ use mathlib.Core.List.{List}
 use mathlib.Core.Path.{◌≡◌, refl, subst, ◌∙◌}
 use lib.ListN.{length}
 use native.Mathlib.Omega.{arith}
+use Rattle.std.specs.Prelude.{None, Option, Some}
 use Rattle.buffers.specs.declared.verdict.Verdict.{Verdict}
 use Rattle.buffers.specs.declared.verdict.Verdict.TheVariants.{Refuse}
 use Rattle.buffers.specs.Memory.{Within, word_size}
@@ -13,8 +14,6 @@ use Rattle.chip.specs.declared.advance.Store.{Store}
 use Rattle.chip.specs.declared.advance.Store.TheVariants.{Put}
 use Rattle.chip.specs.declared.state.State.{State}
 use Rattle.chip.specs.State.{passes}
-use Rattle.counts.specs.declared.part.Lookup.{Lookup}
-use Rattle.counts.specs.declared.part.Lookup.TheVariants.{Known, Unknown}
 use Rattle.counts.specs.declared.part.Part.{Part}
 use Rattle.counts.specs.Part.{part_of}
 use Rattle.spelling.specs.Spelling.{spells, state_in}
@@ -31,12 +30,12 @@ module _ (part : Part) (bytes state : List ℕ) {s : State} {spelled passed : Bo
   unfolding on_state
   state_passes holds g = g ∙ rw (← as_told, holds) refl
 
-module _ (number : ℕ) (bytes state : List ℕ) (memory answer : ℕ) {looked : Lookup} (e : looked ≡ part_of number) where
-  pub judged_unknown : looked ≡ Unknown → Refuse 1 ≡ judged number bytes state memory answer
+module _ (number : ℕ) (bytes state : List ℕ) (memory answer : ℕ) {looked : Option Part} (e : looked ≡ part_of number) where
+  pub judged_unknown : looked ≡ None → Refuse 1 ≡ judged number bytes state memory answer
   unfolding judged
   judged_unknown u = rw (← e, u) refl
 
-  module _ {part : Part} (known : looked ≡ Known part) {fits : Bool} (f : fits ≡ roomy part (length state) memory answer) where
+  module _ {part : Part} (known : looked ≡ Some part) {fits : Bool} (f : fits ≡ roomy part (length state) memory answer) where
     pub judged_length : fits ≡ false → Refuse 2 ≡ judged number bytes state memory answer
     unfolding judged
     judged_length fails = rw (← e, known) (rw (← f, fails) refl)

@@ -1,5 +1,5 @@
 -- The C call: what stands when a record is to be worked.
-use Rattle.std.specs.Prelude.{ℕ, ◌+◌, ◌*◌, ◌<◌, Bool, true, false, cond, ◌&&◌, List, ◌≡◌, refl, eqb, length}
+use Rattle.std.specs.Prelude.{ℕ, ◌+◌, ◌*◌, ◌<◌, Bool, true, false, cond, ◌&&◌, List, ◌≡◌, refl, eqb, length, Option, Some, None}
 use Rattle.std.proofs.Math.Bool.{and-eq-true_iff}
 use Rattle.std.proofs.Common.{subst, eqb-true, arith}
 use Rattle.buffers.specs.declared.verdict.Verdict.{Verdict}
@@ -10,8 +10,6 @@ use Rattle.chip.specs.declared.advance.Store.{Store}
 use Rattle.chip.specs.declared.advance.Store.TheVariants.{Keep, Put}
 use Rattle.chip.specs.Laws.{Placed}
 use Rattle.chip.specs.State.{passes}
-use Rattle.counts.specs.declared.part.Lookup.{Lookup}
-use Rattle.counts.specs.declared.part.Lookup.TheVariants.{Known, Unknown}
 use Rattle.counts.specs.declared.part.Part.{Part}
 use Rattle.counts.specs.Laws.{place_below}
 use Rattle.counts.specs.Part.{by_part, depth_of, part_of, place_bits}
@@ -35,7 +33,7 @@ store_within part (Put place word) bytes e placed = omega arith
 
 -- every test that a record to be worked has passed
 pub record Cleared (number : ℕ) (bytes state : List ℕ) (memory answer : ℕ) (part : Part) (x : ℕ) : Type 0 where
-  pub known : part_of number ≡ Known part
+  pub known : part_of number ≡ Some part
   pub ready : Ready part state memory answer
   pub whole : length bytes ≡ word_size
   pub word : x ≡ word_at bytes 0
@@ -48,9 +46,9 @@ when : {A : Type 0} (P : A → Type 0) (test : Bool) (x y : A) → (test ≡ tru
 when P true x y f g = f refl
 when P false x y f g = g
 
-when_known : {A : Type 0} (P : A → Type 0) (looked : Lookup) (f : Part → A) (y : A) → ((part : Part) → looked ≡ Known part → P (f part)) → P y → P (by_part looked f y)
-when_known P (Known part) f y g h = g part refl
-when_known P Unknown f y g h = h
+when_known : {A : Type 0} (P : A → Type 0) (looked : Option Part) (f : Part → A) (y : A) → ((part : Part) → looked ≡ Some part → P (f part)) → P y → P (by_part looked f y)
+when_known P (Some part) f y g h = g part refl
+when_known P None f y g h = h
 
 all_cleared : (number : ℕ) (bytes state : List ℕ) (memory answer : ℕ) → Clears number bytes state memory answer (judged number bytes state memory answer)
 unfolding judged on_state on_record

@@ -5,7 +5,7 @@ ghost use Rattle.buffers.specs.Verdict.{judged, on_record, on_state, roomy};
 ghost use Rattle.spelling.specs.Spelling.{state_bytes, state_in};
 ghost use Rattle.std.specs.Prelude.{length, ◌≡◌};
 
-use counts::part::{Lookup, Part};
+use counts::part::Part;
 use spelling::state::STATE_BYTES;
 
 // A record of four bytes for a part and a state that have passed their tests, or a refusal's number.
@@ -20,7 +20,7 @@ pub fn judge(part: u32, record: &[u8], state: &[u8], memory: usize, answer: usiz
     ensures { result ≡ judged part «record».now state.now memory answer }
 {
     let looked_up = counts::part::look_up(part);
-    let Lookup::Known(known) = looked_up else {
+    let Some(known) = looked_up else {
         return Verdict::Refuse(1);
     };
     if is_roomy(known, state.len(), memory, answer) {

@@ -1,6 +1,6 @@
 -- What is turned away before any record is looked at, in the table's order. Part numbers and depths stand in plain figures, so that a definition
 -- that says another is refused here.
-use Rattle.std.specs.Prelude.{ℕ, ◌*◌, ◌≤◌, ◌<◌, Bool, true, false, cond, ◌&&◌, ◌≢◌, ◌≡◌, refl, eqb, leb, length}
+use Rattle.std.specs.Prelude.{ℕ, ◌*◌, ◌≤◌, ◌<◌, Bool, true, false, cond, ◌&&◌, ◌≢◌, ◌≡◌, refl, eqb, leb, length, Option, Some, None}
 use Rattle.std.proofs.Math.Bool.{and-false}
 use Rattle.std.proofs.Common.{sym, ◌∙◌, arith}
 use Rattle.std.proofs.Math.Path.{ap}
@@ -12,24 +12,22 @@ use Rattle.rows.specs.StepLaws.{all_at, all_by, told_fits}
 use Rattle.chip.specs.State.{passes, widths}
 use Rattle.chip.specs.Widths.{tested_widths}
 use Rattle.counts.specs.Both.{both}
-use Rattle.counts.specs.declared.part.Lookup.{Lookup}
-use Rattle.counts.specs.declared.part.Lookup.TheVariants.{Known, Unknown}
 use Rattle.counts.specs.declared.part.Part.{Part}
 use Rattle.counts.specs.Part.{by_part, depth_of, part_of}
 use Rattle.fifo.specs.NumberLaws.{asked_by, known, same_depth, words_in}
 use Rattle.chain_runs.specs.declared.testing.Verdict.TheVariants.{Passed, Refused}
 use Rattle.chain_runs.specs.Test.{known_test, several, test_of}
 
-module _ (number : ℕ) (row : Row) (words : ℕ) (roomy : Bool) {looked : Lookup} (l : looked ≡ part_of number) where
-  pub by_unknown : looked ≡ Unknown → test_of number row words roomy ≡ Refused 1
+module _ (number : ℕ) (row : Row) (words : ℕ) (roomy : Bool) {looked : Option Part} (l : looked ≡ part_of number) where
+  pub by_unknown : looked ≡ None → test_of number row words roomy ≡ Refused 1
   unfolding test_of
   by_unknown u = simp (sym l ∙ u)
 
-  pub by_known : {part : Part} → looked ≡ Known part → several row.count ≡ true → test_of number row words roomy ≡ known_test part row words roomy
+  pub by_known : {part : Part} → looked ≡ Some part → several row.count ≡ true → test_of number row words roomy ≡ known_test part row words roomy
   unfolding test_of
   by_known k s = simp (sym l ∙ k, s)
 
-  pub by_few : {part : Part} → looked ≡ Known part → several row.count ≡ false → test_of number row words roomy ≡ Refused 13
+  pub by_few : {part : Part} → looked ≡ Some part → several row.count ≡ false → test_of number row words roomy ≡ Refused 13
   unfolding test_of
   by_few k s = simp (sym l ∙ k, s)
 
@@ -49,11 +47,11 @@ known_by true true mine part e = let same : mine ≡ part = cc in (refl, refl, s
 known_by true false mine part e = let z : ◌≡◌ {A = ℕ} 0 1 = cc in absurd (omega arith)
 known_by false passes mine part e = let z : ◌≡◌ {A = ℕ} 0 1 = cc in absurd (omega arith)
 
-test_by : (looked : Lookup) (row : Row) (words : ℕ) (roomy enough : Bool) (part : Part) → (enough ≡ true → row.count ≤ 8)
+test_by : (looked : Option Part) (row : Row) (words : ℕ) (roomy enough : Bool) (part : Part) → (enough ≡ true → row.count ≤ 8)
     → by_part looked (λ known. cond enough (known_test known row words roomy) (Refused 13)) (Refused 1) ≡ Passed part
     → Passing part row words roomy
 unfolding known_test
-test_by (Known mine) row words roomy true part most e =
+test_by (Some mine) row words roomy true part most e =
     let all = known_by _ _ mine part e in
     let lent = both roomy _ all.0 in
     record {
@@ -62,8 +60,8 @@ test_by (Known mine) row words roomy true part most e =
       sized = eqb-true _ _ lent.1 ∙ ap (λ (p : Part). row.count * depth_of p) all.2;
       tested = ap (λ (p : Part). passes_to p row row.count) (sym all.2) ∙ all.1;
     }
-test_by (Known mine) row words roomy false part most e = let z : ◌≡◌ {A = ℕ} 0 1 = cc in absurd (omega arith)
-test_by Unknown row words roomy enough part most e = let z : ◌≡◌ {A = ℕ} 0 1 = cc in absurd (omega arith)
+test_by (Some mine) row words roomy false part most e = let z : ◌≡◌ {A = ℕ} 0 1 = cc in absurd (omega arith)
+test_by None row words roomy enough part most e = let z : ◌≡◌ {A = ℕ} 0 1 = cc in absurd (omega arith)
 
 pub passing : (number : ℕ) (row : Row) (words : ℕ) (roomy : Bool) (part : Part) → test_of number row words roomy ≡ Passed part → Passing part row words roomy
 unfolding test_of

@@ -3,7 +3,7 @@ ghost use Rattle.std.specs.Prelude.{◌*◌, ◌≤◌, ◌≡◌};
 ghost use Rattle.chain_runs.specs.Test.{known_test, several, test_of};
 ghost use Rattle.counts.specs.Part.{depth_of};
 
-use counts::part::{Lookup, Part};
+use counts::part::Part;
 use rows::row::Row;
 
 #[derive(Clone, Copy)]
@@ -17,7 +17,7 @@ pub fn test(number: u32, row: Row, words: usize, roomy: bool) -> Verdict
     ensures { result ≡ test_of number row words roomy }
 {
     let looked_up = counts::part::look_up(number);
-    let Lookup::Known(part) = looked_up else {
+    let Some(part) = looked_up else {
         return Verdict::Refused(1);
     };
     if is_several(row.count) {

@@ -1,24 +1,22 @@
 -- Parts and paper authority.
-use Rattle.std.specs.Prelude.{ℕ, ◌*◌, ◌/◌, ◌%◌, ◌^◌, Bool, cond, ◌==◌, nat_lt}
+use Rattle.std.specs.Prelude.{ℕ, ◌*◌, ◌/◌, ◌%◌, ◌^◌, Bool, cond, Option, None, Some, ◌==◌, nat_lt}
 use Rattle.counts.specs.declared.part.Part.{Part}
 use Rattle.counts.specs.declared.part.Part.TheVariants.{Idt72V255LA, Idt72V265LA}
-use Rattle.counts.specs.declared.part.Lookup.{Lookup}
-use Rattle.counts.specs.declared.part.Lookup.TheVariants.{Known, Unknown}
 
 -- the number that a part is asked for by
 abbrev pub number_of : Part → ℕ
 number_of Idt72V255LA = 255
 number_of Idt72V265LA = 265
 
-abbrev pub part_of : ℕ → Lookup
+abbrev pub part_of : ℕ → Option Part
 part_of number =
-    cond (number == number_of Idt72V255LA) (Known Idt72V255LA)
-    (cond (number == number_of Idt72V265LA) (Known Idt72V265LA) Unknown)
+    cond (number == number_of Idt72V255LA) (Some Idt72V255LA)
+    (cond (number == number_of Idt72V265LA) (Some Idt72V265LA) None)
 
 -- by whether a number is a part's
-abbrev pub by_part : {A : Type 0} → Lookup → (Part → A) → A → A
-by_part (Known part) known unknown = known part
-by_part Unknown known unknown = unknown
+abbrev pub by_part : {A : Type 0} → Option Part → (Part → A) → A → A
+by_part (Some part) known unknown = known part
+by_part None known unknown = unknown
 
 -- a place in memory is told by this many bits
 abbrev pub place_bits : Part → ℕ

@@ -1,33 +1,32 @@
 -- Parts and paper authority, and Offsets: a part is looked up by its own number and by no other, its sizes in figures, and the width of the counts
 -- is a multiple of its depth.
-use Rattle.std.specs.Prelude.{◌≡◌, ℕ, ◌+◌, ◌^◌, ◌≤◌, Bool, true, false, cond, ◌==◌, ◌≢◌, refl}
+use Rattle.std.specs.Prelude.{◌≡◌, ℕ, ◌+◌, ◌^◌, ◌≤◌, Bool, true, false, cond, ◌==◌, ◌≢◌, refl, Some, None}
 use Rattle.std.proofs.Common.{pow_mono, arith, eqb-true}
 use Rattle.counts.specs.declared.part.Part.{Part}
 use Rattle.counts.specs.declared.part.Part.TheVariants.{Idt72V255LA, Idt72V265LA}
-use Rattle.counts.specs.declared.part.Lookup.TheVariants.{Known, Unknown}
 use Rattle.counts.specs.Part.{depth_of, number_of, offset_bits, part_of, place_bits, serial_bits}
 use Rattle.counts.specs.Round.{width}
 
-pub own_number : (part : Part) → part_of (number_of part) ≡ Known part
+pub own_number : (part : Part) → part_of (number_of part) ≡ Some part
 own_number Idt72V255LA = refl
 own_number Idt72V265LA = refl
 
-no_part : (part : Part) → Unknown ≢ Known part
+no_part : (part : Part) → None ≢ Some part
 no_part part e = let z : ◌≡◌ {A = ℕ} 0 1 = cc in omega arith
 
 known_by : (number : ℕ) (part : Part) (is255 is265 : Bool) → (number == 255) ≡ is255 → (number == 265) ≡ is265
-    → cond is255 (Known Idt72V255LA) (cond is265 (Known Idt72V265LA) Unknown) ≡ Known part → number ≡ number_of part
+    → cond is255 (Some Idt72V255LA) (cond is265 (Some Idt72V265LA) None) ≡ Some part → number ≡ number_of part
 known_by number Idt72V255LA true is265 e f k = eqb-true _ _ e
 known_by number Idt72V265LA true is265 e f k = let z : ◌≡◌ {A = ℕ} 0 1 = cc in omega arith
 known_by number Idt72V255LA false true e f k = let z : ◌≡◌ {A = ℕ} 0 1 = cc in omega arith
 known_by number Idt72V265LA false true e f k = eqb-true _ _ f
 known_by number part false false e f k = absurd (no_part part k)
 
-pub no_other_number : (number : ℕ) (part : Part) → part_of number ≡ Known part → number ≡ number_of part
+pub no_other_number : (number : ℕ) (part : Part) → part_of number ≡ Some part → number ≡ number_of part
 no_other_number number part = known_by number part (number == 255) (number == 265) refl refl
 
 -- the low 16 bits of this number are 255
-pub compared_in_full : part_of 65791 ≡ Unknown
+pub compared_in_full : part_of 65791 ≡ None
 compared_in_full = refl
 
 pub in_figures : (depth_of Idt72V255LA ≡ 8192) × (offset_bits Idt72V255LA ≡ 13) × (serial_bits Idt72V255LA ≡ 26)

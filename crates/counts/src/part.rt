@@ -2,27 +2,19 @@
 ghost use Rattle.counts.specs.Part.{above_bits, depth_of, low_bits, offset_bits, part_of, serial_bits, within};
 ghost use Rattle.std.specs.Prelude.{◌≡◌};
 
-#[derive(Clone, Copy)]
+#[derive(Clone, Copy, Debug, PartialEq, Eq)]
 pub enum Part {
     Idt72V255LA,
     Idt72V265LA,
 }
 
-#[derive(Clone, Copy)]
-pub enum Lookup {
-    Known(Part),
-    Unknown,
-}
-
-pub fn look_up(number: u32) -> Lookup
+pub fn look_up(number: u32) -> Option<Part>
     ensures { result ≡ part_of number }
 {
-    if number == 255 {
-        Lookup::Known(Part::Idt72V255LA)
-    } else if number == 265 {
-        Lookup::Known(Part::Idt72V265LA)
-    } else {
-        Lookup::Unknown
+    match number {
+        255 => Some(Part::Idt72V255LA),
+        265 => Some(Part::Idt72V265LA),
+        _ => None,
     }
 }
 

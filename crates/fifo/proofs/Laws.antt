@@ -6,10 +6,9 @@ use mathlib.Core.Path.{◌≡◌, refl, sym, ap, ◌∙◌}
 use lib.ListN.{get_or, length}
 use borrow.Author.Tests.{eq-eqb, ne_eqb}
 use native.Mathlib.Nat.{le_of_suc-le-suc, not-suc-le-zero}
+use Rattle.std.specs.Prelude.{None, Option, Some}
 use Rattle.chip.specs.declared.state.State.{State}
 use Rattle.chip.specs.State.{passes}
-use Rattle.counts.specs.declared.part.Lookup.{Lookup}
-use Rattle.counts.specs.declared.part.Lookup.TheVariants.{Known, Unknown}
 use Rattle.counts.specs.declared.part.Part.{Part}
 use Rattle.counts.specs.Part.{part_of}
 use Rattle.pins.specs.declared.record.Pins.{Pins}
@@ -50,12 +49,12 @@ module _ (part : Part) (x : ℕ) (s : State) (memory : List ℕ) {number : ℕ} 
   unfolding stepped
   stepped_refuses n = rw (← f) (simp (ne_eqb _ _ n))
 
-module _ (number x : ℕ) (s : State) (memory : List ℕ) {looked : Lookup} (e : looked ≡ part_of number) where
-  pub sample_unknown : looked ≡ Unknown → sampled number x s memory ≡ turned_away 1 s memory
+module _ (number x : ℕ) (s : State) (memory : List ℕ) {looked : Option Part} (e : looked ≡ part_of number) where
+  pub sample_unknown : looked ≡ None → sampled number x s memory ≡ turned_away 1 s memory
   unfolding sampled
   sample_unknown u = simp (← e, u)
 
-  module _ (part : Part) (k : looked ≡ Known part) where
+  module _ (part : Part) (k : looked ≡ Some part) where
     pub sample_length : is_depth part (length memory) ≡ false → sampled number x s memory ≡ turned_away 2 s memory
     unfolding sampled
     sample_length d = simp (← e, k, d)

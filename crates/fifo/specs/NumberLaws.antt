@@ -1,6 +1,6 @@
 -- What is turned away: which number one sample gets, in the table's order, and that nothing else comes of it. Part numbers and depths stand
 -- in plain figures, so that a definition that says another is refused here.
-use Rattle.std.specs.Prelude.{ℕ, Bool, true, false, cond, List, ◌≢◌, ◌≡◌, eqb, length}
+use Rattle.std.specs.Prelude.{ℕ, Bool, true, false, cond, List, ◌≢◌, ◌≡◌, eqb, length, Option, Some, None}
 use Rattle.std.proofs.Math.Path.{refl}
 use Rattle.std.proofs.Common.{sym, ◌∙◌}
 use borrow.Author.Tests.{eqb-true, ne_eqb}
@@ -8,8 +8,6 @@ use Rattle.chip.specs.declared.advance.Advanced.{Advanced}
 use Rattle.chip.specs.declared.state.State.{State}
 use Rattle.chip.specs.Advance.{advanced}
 use Rattle.chip.specs.State.{passes}
-use Rattle.counts.specs.declared.part.Lookup.{Lookup}
-use Rattle.counts.specs.declared.part.Lookup.TheVariants.{Known, Unknown}
 use Rattle.counts.specs.declared.part.Part.{Part}
 use Rattle.counts.specs.declared.part.Part.TheVariants.{Idt72V255LA, Idt72V265LA}
 use Rattle.counts.specs.Part.{by_part, depth_of, part_of}
@@ -27,7 +25,7 @@ abbrev pub words_in : Part → ℕ
 words_in Idt72V255LA = 8192
 words_in Idt72V265LA = 16384
 
-pub known : (part : Part) → part_of (asked_by part) ≡ Known part
+pub known : (part : Part) → part_of (asked_by part) ≡ Some part
 known Idt72V255LA = refl
 known Idt72V265LA = refl
 
@@ -93,13 +91,13 @@ module _ (s : State) (memory : List ℕ) where
     unfolding stepped taken
     step_numbered part = by_refusal (eqb (record_refusal part x s) 0) (record_refusal part x s) (advanced part (pins_of x) (fetched_for part s memory) s) refl
 
-    by_part_lem : ((part : Part) → Numbered (record_refusal part x s) (stepped part x s memory) s memory) → (looked : Lookup)
+    by_part_lem : ((part : Part) → Numbered (record_refusal part x s) (stepped part x s memory) s memory) → (looked : Option Part)
         → Numbered (by_part looked (λ part. cond (is_depth part (length memory)) (cond (passes part s) (record_refusal part x s) 3) 2) 1)
         (by_part looked
         (λ part. cond (is_depth part (length memory)) (cond (passes part s) (stepped part x s memory) (turned_away 3 s memory)) (turned_away 2 s memory))
         (turned_away 1 s memory)) s memory
-    by_part_lem steps (Known part) = by_tests (is_depth part (length memory)) (passes part s) (steps part)
-    by_part_lem steps Unknown = turned 1 refl
+    by_part_lem steps (Some part) = by_tests (is_depth part (length memory)) (passes part s) (steps part)
+    by_part_lem steps None = turned 1 refl
 
     pub sample_numbered : (number : ℕ) → Numbered (sample_refusal number x s (length memory)) (sampled number x s memory) s memory
     unfolding sampled sample_refusal stepped taken

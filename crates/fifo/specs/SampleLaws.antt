@@ -1,5 +1,5 @@
 -- A refused sample moves nothing, a taken one keeps the widths, and the memory keeps its length.
-use Rattle.std.specs.Prelude.{ℕ, Bool, true, false, cond, List, ◌≡◌, refl, eqb, length}
+use Rattle.std.specs.Prelude.{ℕ, Bool, true, false, cond, List, ◌≡◌, refl, eqb, length, Some}
 use Rattle.std.proofs.Common.{length-set, arith}
 use Rattle.chip.specs.declared.advance.Advanced.{Advanced}
 use Rattle.chip.specs.declared.advance.Store.{Store}
@@ -8,7 +8,6 @@ use Rattle.chip.specs.declared.state.State.{State}
 use Rattle.chip.specs.Advance.{advanced, stored}
 use Rattle.chip.specs.State.{passes, widths}
 use Rattle.chip.specs.Widths.{widths_stay}
-use Rattle.counts.specs.declared.part.Lookup.TheVariants.{Known}
 use Rattle.counts.specs.declared.part.Part.{Part}
 use Rattle.counts.specs.Part.{part_of}
 use Rattle.pins.specs.Record.{pins_of}
@@ -53,7 +52,7 @@ module _ (part : Part) (x : ℕ) (s : State) (memory : List ℕ) where
   step_length = length_by (eqb (record_refusal part x s) 0) (advanced part (pins_of x) (fetched_for part s memory) s) (record_refusal part x s) s memory
 
 -- a sample for a part, a memory and a state that pass 1 to 3 is the step
-pub sample_is_step : (number x : ℕ) (s : State) (memory : List ℕ) (part : Part) → part_of number ≡ Known part → is_depth part (length memory) ≡ true
+pub sample_is_step : (number x : ℕ) (s : State) (memory : List ℕ) (part : Part) → part_of number ≡ Some part → is_depth part (length memory) ≡ true
     → passes part s ≡ true → sampled number x s memory ≡ stepped part x s memory
 unfolding sampled
 sample_is_step number x s memory part k d t = simp (k, d, t)

@@ -8,7 +8,7 @@ ghost use Rattle.std.specs.Prelude.{true, ◌≡◌};
 
 use chip::advance::Advanced;
 use chip::state::State;
-use counts::part::{Lookup, Part};
+use counts::part::Part;
 use pins::record::Pins;
 
 // Taken with its packed answer, or refused with its number.
@@ -28,7 +28,7 @@ pub fn sample(part: u32, record: u32, state: State, memory: &mut [u32]) -> Sampl
     ensures { Samples part «record» state memory.old result memory.new }
 {
     let looked_up = counts::part::look_up(part);
-    let Lookup::Known(known) = looked_up else {
+    let Some(known) = looked_up else {
         return turn_away(1, state);
     };
     if is_depth(known, memory.len()) {

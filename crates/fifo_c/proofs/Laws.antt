@@ -5,6 +5,7 @@ use mathlib.Core.Path.{◌≡◌, refl, sym, ap, ◌∙◌}
 use lib.ListN.{length}
 use borrow.Author.Rules.{rules}
 use borrow.Author.Tests.{eq-eqb, ne_eqb}
+use Rattle.std.specs.Prelude.{None, Option, Some}
 use Rattle.buffers.specs.declared.verdict.Verdict.{Verdict}
 use Rattle.buffers.specs.declared.verdict.Verdict.TheVariants.{Work, Refuse}
 use Rattle.buffers.specs.Memory.{memory_bytes}
@@ -13,8 +14,6 @@ use Rattle.buffers.specs.VerdictLaws.{cleared}
 use Rattle.call_work.specs.Work.{Gives, worked}
 use Rattle.chip.specs.declared.state.State.{State}
 use Rattle.chip.specs.Reset.{powered_up}
-use Rattle.counts.specs.declared.part.Lookup.{Lookup}
-use Rattle.counts.specs.declared.part.Lookup.TheVariants.{Known, Unknown}
 use Rattle.counts.specs.declared.part.Part.{Part}
 use Rattle.counts.specs.Part.{part_of}
 use Rattle.spelling.specs.Spelling.{spelling, state_bytes}
@@ -35,11 +34,11 @@ module _ (number : ℕ) (bytes state memory answer : List ℕ) {v : Verdict} (e 
   pub work_may : {part : Part} {x : ℕ} → v ≡ Work part x → Ready part state (length memory) (length answer)
   work_may {part = part} {x = x} works = (cleared number bytes state (length memory) (length answer) part x (sym e ∙ works)).ready
 
-module _ (number : ℕ) {looked : Lookup} (e : looked ≡ part_of number) where
-  pub memory_known : {part : Part} {r : ℕ} → looked ≡ Known part → r ≡ memory_bytes part → r ≡ memory_for number
+module _ (number : ℕ) {looked : Option Part} (e : looked ≡ part_of number) where
+  pub memory_known : {part : Part} {r : ℕ} → looked ≡ Some part → r ≡ memory_bytes part → r ≡ memory_for number
   memory_known known f = f ∙ rw (← e, known) refl
 
-  pub memory_unknown : looked ≡ Unknown → 0 ≡ memory_for number
+  pub memory_unknown : looked ≡ None → 0 ≡ memory_for number
   memory_unknown unknown = rw (← e, unknown) refl
 
 module _ (state : List ℕ) where

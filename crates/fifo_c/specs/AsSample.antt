@@ -1,5 +1,5 @@
 -- The C call is the sample: on bytes, it gives what `sample` gives on what the bytes spell.
-use Rattle.std.specs.Prelude.{ℕ, ◌%◌, Bool, true, false, cond, ◌≢◌, List, ◌≡◌, refl, eqb, length}
+use Rattle.std.specs.Prelude.{ℕ, ◌%◌, Bool, true, false, cond, ◌≢◌, List, ◌≡◌, refl, eqb, length, Option, Some, None}
 use Rattle.std.proofs.Math.Bool.{and-true}
 use Rattle.std.proofs.Common.{sym, eq-eqb, eqb-true, ne_eqb, arith}
 use Rattle.std.proofs.lemmas.Bool.{eqb-false}
@@ -11,8 +11,6 @@ use Rattle.chip.specs.Counted.{counts_stay}
 use Rattle.chip.specs.Laws.{Placed, store_placed}
 use Rattle.chip.specs.State.{passes}
 use Rattle.chip.specs.Widths.{tested_widths, widths_stay}
-use Rattle.counts.specs.declared.part.Lookup.{Lookup}
-use Rattle.counts.specs.declared.part.Lookup.TheVariants.{Known, Unknown}
 use Rattle.counts.specs.declared.part.Part.{Part}
 use Rattle.counts.specs.Laws.{place_below}
 use Rattle.counts.specs.Part.{by_part, depth_of, part_of, place_bits}
@@ -89,10 +87,10 @@ module _ (state memory answer : List ℕ) (own : spells state ≡ true) (room : 
           room = refl;
         })
 
-pair_known : {A : Type 0} (P : A → After → Type 0) (looked : Lookup) (f : Part → A) (g : Part → After) (v : A) (a : After) → ((part : Part) → P (f part) (g part)) → P v a
+pair_known : {A : Type 0} (P : A → After → Type 0) (looked : Option Part) (f : Part → A) (g : Part → After) (v : A) (a : After) → ((part : Part) → P (f part) (g part)) → P v a
     → P (by_part looked f v) (by_part looked g a)
-pair_known P (Known part) f g v a h k = h part
-pair_known P Unknown f g v a h k = k
+pair_known P (Some part) f g v a h k = h part
+pair_known P None f g v a h k = k
 
 pair_when : {A : Type 0} (P : A → After → Type 0) (test : Bool) (v w : A) (a b : After) → (test ≡ true → P v a) → P w b → P (cond test v w) (cond test a b)
 pair_when P true v w a b h k = h refl

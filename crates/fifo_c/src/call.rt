@@ -4,7 +4,6 @@ ghost use Rattle.fifo_c.specs.Call.{Calls, GivesMemoryBytes, GivesStateBytes, Po
 ghost use Rattle.std.specs.Prelude.{◌≡◌};
 
 use buffers::verdict::Verdict;
-use counts::part::Lookup;
 use spelling::state::STATE_BYTES;
 
 pub fn fifo_state_bytes() -> u32
@@ -18,8 +17,8 @@ pub fn fifo_memory_bytes(part: u32) -> u32
 {
     let looked_up = counts::part::look_up(part);
     match looked_up {
-        Lookup::Known(known) => buffers::memory::memory_bytes(known),
-        Lookup::Unknown => 0,
+        Some(known) => buffers::memory::memory_bytes(known),
+        None => 0,
     }
 }
 

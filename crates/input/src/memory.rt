@@ -2,7 +2,6 @@
 ghost use Rattle.std.specs.Prelude.{◌*◌, ◌≤◌, leb, cond, ◌≡◌};
 ghost use Rattle.counts.specs.Part.{by_part, depth_of, part_of};
 
-use counts::part::Lookup;
 
 // No part's memory is longer, in words.
 pub const MOST: usize = 16384;
@@ -16,8 +15,8 @@ pub fn words(number: u32) -> usize
 {
     let looked_up = counts::part::look_up(number);
     match looked_up {
-        Lookup::Known(part) => wide(counts::part::depth(part)),
-        Lookup::Unknown => 0,
+        Some(part) => wide(counts::part::depth(part)),
+        None => 0,
     }
 }
 

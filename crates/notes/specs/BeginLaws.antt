@@ -1,10 +1,8 @@
 -- What is turned away, on a run: 1, 2 and 3 come before any sample, in this order and with index 0.
-use Rattle.std.specs.Prelude.{ℕ, ◌≤◌, ◌<◌, Bool, true, false, not, ◌&&◌, ◌||◌, ◌≢◌, ◌≡◌, refl, leb, length}
+use Rattle.std.specs.Prelude.{ℕ, ◌≤◌, ◌<◌, Bool, true, false, not, ◌&&◌, ◌||◌, ◌≢◌, ◌≡◌, refl, leb, length, Option, Some, None}
 use Rattle.std.proofs.Math.Bool.{and-false}
 use Rattle.std.proofs.Common.{sym}
 use borrow.Author.Tests.{le-leb, leb-true, lt-leb, ne_eqb}
-use Rattle.counts.specs.declared.part.Lookup.{Lookup}
-use Rattle.counts.specs.declared.part.Lookup.TheVariants.{Known, Unknown}
 use Rattle.counts.specs.declared.part.Part.{Part}
 use Rattle.counts.specs.Both.{both}
 use Rattle.counts.specs.Part.{part_of}
@@ -16,12 +14,12 @@ module _ {S M : Type 0} (number : ℕ) (fits passes : Part → Bool) (worked : P
   one_comes n m = simp (ne_eqb number 255 n, ne_eqb number 265 m)
 
   -- by what a look-up gave
-  module _ {looked : Lookup} (l : looked ≡ part_of number) where
-    pub begun_unknown : looked ≡ Unknown → begun number fits passes worked g ≡ ended 1 0 g
+  module _ {looked : Option Part} (l : looked ≡ part_of number) where
+    pub begun_unknown : looked ≡ None → begun number fits passes worked g ≡ ended 1 0 g
     unfolding begun
     begun_unknown u = simp (← l, u)
 
-    module _ (part : Part) (k : looked ≡ Known part) where
+    module _ (part : Part) (k : looked ≡ Some part) where
       pub begun_room : fits part ≡ false → begun number fits passes worked g ≡ ended 2 0 g
       unfolding begun
       begun_room f = simp (← l, k, f)
@@ -58,7 +56,7 @@ module _ {S M : Type 0} (lenient : Bool) (bytes whole : ℕ) (sized passes : Par
   abbrev fits : Part → Bool
   fits part = sized part && roomy lenient bytes whole (length g.answers) (length g.marks)
 
-  pub begins : (number : ℕ) (part : Part) → part_of number ≡ Known part → {Sized : Type 0} → (Sized → sized part ≡ true) → (¬ Sized → sized part ≡ false)
+  pub begins : (number : ℕ) (part : Part) → part_of number ≡ Some part → {Sized : Type 0} → (Sized → sized part ≡ true) → (¬ Sized → sized part ≡ false)
       → Begins lenient Sized bytes whole (passes part) (begun number fits passes worked g) (worked part) g
   unfolding begun
   begins number part k {Sized} is none =

@@ -4,8 +4,7 @@ use mathlib.Core.Bool.{Bool, true, false, ◌&&◌}
 use mathlib.Core.List.{List}
 use mathlib.Core.Path.{◌≡◌, refl, sym, ap, ◌∙◌}
 use lib.ListN.{length}
-use Rattle.counts.specs.declared.part.Lookup.{Lookup}
-use Rattle.counts.specs.declared.part.Lookup.TheVariants.{Known, Unknown}
+use Rattle.std.specs.Prelude.{None, Option, Some}
 use Rattle.counts.specs.declared.part.Part.{Part}
 use Rattle.counts.specs.Part.{part_of}
 use Rattle.fifo.specs.declared.sample.Sampled as fifo
@@ -61,12 +60,12 @@ module _ (part : Part) (x : Two ℕ) (h : Halves) (memory : Two (List ℕ)) {tri
 pub passed : {found asked : Bool} → found ≡ asked → found ≡ true → asked ≡ true
 passed e n = sym e ∙ n
 
-module _ (number : ℕ) (x : Two ℕ) (h : Halves) (memory : Two (List ℕ)) {looked : Lookup} (e : looked ≡ part_of number) where
-  pub sample_unknown : looked ≡ Unknown → pair_sampled number x h memory ≡ turned_away 1 h memory
+module _ (number : ℕ) (x : Two ℕ) (h : Halves) (memory : Two (List ℕ)) {looked : Option Part} (e : looked ≡ part_of number) where
+  pub sample_unknown : looked ≡ None → pair_sampled number x h memory ≡ turned_away 1 h memory
   unfolding pair_sampled
   sample_unknown u = simp (← e, u)
 
-  module _ (part : Part) (k : looked ≡ Known part) where
+  module _ (part : Part) (k : looked ≡ Some part) where
     module _ {sized : Bool} (d : sized ≡ single.is_depth part (length memory.left) && single.is_depth part (length memory.right)) where
       pub sample_length : sized ≡ false → pair_sampled number x h memory ≡ turned_away 2 h memory
       unfolding pair_sampled

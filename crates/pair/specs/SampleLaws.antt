@@ -1,11 +1,9 @@
 -- Two parts side by side: a sample is taken by both or by neither, a refused one moves nothing, a taken one is both parts' own step.
-use Rattle.std.specs.Prelude.{ℕ, Bool, true, false, cond, ◌&&◌, List, ◌≢◌, ◌≡◌, eqb, length}
+use Rattle.std.specs.Prelude.{ℕ, Bool, true, false, cond, ◌&&◌, List, ◌≢◌, ◌≡◌, eqb, length, Option, Some, None}
 use Rattle.std.proofs.Common.{true≢false, sym, ap, ◌∙◌, arith, eq-eqb, eqb-true}
 use Rattle.std.proofs.Math.Path.{refl}
 use Rattle.chip.specs.declared.state.State.{State}
 use Rattle.chip.specs.State.{widths}
-use Rattle.counts.specs.declared.part.Lookup.{Lookup}
-use Rattle.counts.specs.declared.part.Lookup.TheVariants.{Known, Unknown}
 use Rattle.counts.specs.declared.part.Part.{Part}
 use Rattle.counts.specs.Part.{by_part, part_of}
 use Rattle.fifo.specs.declared.sample.Outcome.TheVariants as fifo
@@ -125,20 +123,20 @@ module _ (part : Part) (x : Two ℕ) (h : Halves) where
         (none, s, cc, cc)
 
 module _ (h : Halves) (memory : Two (List ℕ)) (x : Two ℕ) where
-  by_part_lem : (looked : Lookup)
+  by_part_lem : (looked : Option Part)
       → Numbered (by_part looked (λ part. cond (is_depth part (length memory.left) && is_depth part (length memory.right)) (cond (passes_both part h) (pair_refusal part x h) 3) 2) 1)
       (by_part looked
       (λ part. cond (is_depth part (length memory.left) && is_depth part (length memory.right)) (cond (passes_both part h) (pair_stepped part x h memory) (turned_away 3 h memory)) (turned_away 2 h memory))
       (turned_away 1 h memory)) h memory
-  by_part_lem (Known part) = by_tests h memory (is_depth part (length memory.left) && is_depth part (length memory.right)) (passes_both part h) (step_numbered part x h memory)
-  by_part_lem Unknown = turned h memory 1 refl
+  by_part_lem (Some part) = by_tests h memory (is_depth part (length memory.left) && is_depth part (length memory.right)) (passes_both part h) (step_numbered part x h memory)
+  by_part_lem None = turned h memory 1 refl
 
   pub sample_numbered : (number : ℕ) → Numbered (pair_sample_refusal number x h (two (length memory.left) (length memory.right))) (pair_sampled number x h memory) h memory
   unfolding pair_sampled pair_sample_refusal
   sample_numbered number = by_part_lem (part_of number)
 
 -- a sample for a part, memories and a state that pass 1 to 3 is the step
-pub sample_is_step : (number : ℕ) (x : Two ℕ) (h : Halves) (memory : Two (List ℕ)) (part : Part) → part_of number ≡ Known part
+pub sample_is_step : (number : ℕ) (x : Two ℕ) (h : Halves) (memory : Two (List ℕ)) (part : Part) → part_of number ≡ Some part
     → is_depth part (length memory.left) && is_depth part (length memory.right) ≡ true → passes_both part h ≡ true
     → pair_sampled number x h memory ≡ pair_stepped part x h memory
 unfolding pair_sampled

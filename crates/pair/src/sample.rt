@@ -6,7 +6,7 @@ ghost use Rattle.pair.specs.Still.{held_both, still_both};
 ghost use Rattle.halves.specs.Two.{two};
 ghost use Rattle.std.specs.Prelude.{◌&&◌, true, ◌≡◌};
 
-use counts::part::{Lookup, Part};
+use counts::part::Part;
 use halves::state::Halves;
 
 // Taken with both packed answers, or refused with its number.
@@ -33,7 +33,7 @@ pub fn sample(
     ensures { Samples part (two left right) state (two left_memory.old right_memory.old) result (two left_memory.new right_memory.new) }
 {
     let looked_up = counts::part::look_up(part);
-    let Lookup::Known(known) = looked_up else {
+    let Some(known) = looked_up else {
         return turn_away(1, state);
     };
     if !are_depth(known, left_memory.len(), right_memory.len()) {

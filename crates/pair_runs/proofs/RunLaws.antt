@@ -3,8 +3,7 @@ use Prim.Native.Nat.{ℕ}
 use mathlib.Core.Bool.{Bool, true, false}
 use mathlib.Core.List.{List}
 use mathlib.Core.Path.{◌≡◌}
-use Rattle.counts.specs.declared.part.Lookup.{Lookup}
-use Rattle.counts.specs.declared.part.Lookup.TheVariants.{Known, Unknown}
+use Rattle.std.specs.Prelude.{None, Option, Some}
 use Rattle.counts.specs.declared.part.Part.{Part}
 use Rattle.counts.specs.Part.{part_of}
 use Rattle.halves.specs.State.{passes_both}
@@ -13,12 +12,12 @@ use Rattle.notes.specs.Fold.{ended}
 use Rattle.pair_work.specs.Work.{Progress, worked}
 use Rattle.pair_runs.specs.Run.{fitting, run_of}
 
-module _ (lenient : Bool) (number : ℕ) (bytes : List ℕ) (g : Progress) {looked : Lookup} (l : looked ≡ part_of number) where
-  pub run_unknown : looked ≡ Unknown → run_of lenient number bytes g ≡ ended 1 0 g
+module _ (lenient : Bool) (number : ℕ) (bytes : List ℕ) (g : Progress) {looked : Option Part} (l : looked ≡ part_of number) where
+  pub run_unknown : looked ≡ None → run_of lenient number bytes g ≡ ended 1 0 g
   unfolding run_of
   run_unknown = begin.begun_unknown number _ _ _ g l
 
-  module _ (part : Part) (k : looked ≡ Known part) where
+  module _ (part : Part) (k : looked ≡ Some part) where
     pub run_room : fitting lenient bytes g part ≡ false → run_of lenient number bytes g ≡ ended 2 0 g
     unfolding run_of
     run_room = begin.begun_room number _ _ _ g l part k

@@ -2,7 +2,6 @@
 ghost use Rattle.halves.specs.Two.{two};
 ghost use Rattle.pair_runs.specs.Run.{Began, Runs, RunsLenient};
 
-use counts::part::Lookup;
 use halves::state::Halves;
 use pair_work::work::Ran;
 
@@ -65,7 +64,7 @@ fn begin(
     ensures { Began lenient part trace.now state (two left_memory.old right_memory.old) answers.old marks.old result (two left_memory.new right_memory.new) answers.new marks.new }
 {
     let looked_up = counts::part::look_up(part);
-    let Lookup::Known(known) = looked_up else {
+    let Some(known) = looked_up else {
         return pair_work::work::end_at(0, 0, 1, state);
     };
     let whole = trace.len() / 8;

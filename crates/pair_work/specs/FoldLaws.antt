@@ -1,7 +1,6 @@
 -- A trace may be worked in parts, and, as long as every state on the way passes 3, sample by sample.
-use Rattle.std.specs.Prelude.{ℕ, ◌+◌, ◌*◌, Bool, true, ◌&&◌, List, ◌++◌, ◌≡◌, refl, length}
+use Rattle.std.specs.Prelude.{ℕ, ◌+◌, ◌*◌, Bool, true, ◌&&◌, List, ◌++◌, ◌≡◌, refl, length, Some}
 use Rattle.std.proofs.Common.{ap, arith}
-use Rattle.counts.specs.declared.part.Lookup.TheVariants.{Known}
 use Rattle.counts.specs.declared.part.Part.{Part}
 use Rattle.counts.specs.Part.{part_of}
 use Rattle.fifo.specs.Sample.{is_depth}
@@ -27,7 +26,7 @@ Passing part = Along (turned part) (λ h. passes_both part h ≡ true)
 abbrev are_depth : Part → Two (List ℕ) → Bool
 are_depth part memory = is_depth part (length memory.left) && is_depth part (length memory.right)
 
-pub sample_by_sample : (lenient : Bool) (number : ℕ) (part : Part) → part_of number ≡ Known part
+pub sample_by_sample : (lenient : Bool) (number : ℕ) (part : Part) → part_of number ≡ Some part
     → (last : ℕ) (xs : List (Two ℕ)) (index : ℕ) (g : Progress) → are_depth part g.memory ≡ true → Passing part xs g.state g.memory
     → folded lenient (turned part) last xs index g ≡ folded lenient (λ x h memory. turn (pair_sampled number x h memory)) last xs index g
 sample_by_sample lenient number part k =

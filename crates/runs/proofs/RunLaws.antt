@@ -5,9 +5,8 @@ use mathlib.Core.List.{List}
 use mathlib.Core.Path.{◌≡◌, refl, sym, ap, ◌∙◌}
 use lib.ListN.{length}
 use native.Mathlib.Omega.{arith}
+use Rattle.std.specs.Prelude.{None, Option, Some}
 use Rattle.chip.specs.State.{passes, widths}
-use Rattle.counts.specs.declared.part.Lookup.{Lookup}
-use Rattle.counts.specs.declared.part.Lookup.TheVariants.{Known, Unknown}
 use Rattle.counts.specs.declared.part.Part.{Part}
 use Rattle.counts.specs.Part.{part_of}
 use Rattle.fifo.specs.declared.sample.Outcome.{Outcome}
@@ -93,12 +92,12 @@ module _ {lenient : Bool} {part : Part} {bytes : List ℕ} {start g : Progress} 
           (steady part) below gave n t s l k m;
     }
 
-module _ (lenient : Bool) (number : ℕ) (bytes : List ℕ) (g : Progress) {looked : Lookup} (l : looked ≡ part_of number) where
-  pub run_unknown : looked ≡ Unknown → run_of lenient number bytes g ≡ ended 1 0 g
+module _ (lenient : Bool) (number : ℕ) (bytes : List ℕ) (g : Progress) {looked : Option Part} (l : looked ≡ part_of number) where
+  pub run_unknown : looked ≡ None → run_of lenient number bytes g ≡ ended 1 0 g
   unfolding run_of
   run_unknown = begin.begun_unknown number _ _ _ g l
 
-  module _ (part : Part) (k : looked ≡ Known part) where
+  module _ (part : Part) (k : looked ≡ Some part) where
     pub run_room : fitting lenient bytes g part ≡ false → run_of lenient number bytes g ≡ ended 2 0 g
     unfolding run_of
     run_room = begin.begun_room number _ _ _ g l part k

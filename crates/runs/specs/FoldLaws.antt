@@ -1,9 +1,8 @@
 -- A trace may be worked in parts, and, as long as every state on the way passes 3, sample by sample.
-use Rattle.std.specs.Prelude.{ℕ, ◌+◌, ◌*◌, Bool, true, List, ◌++◌, ◌≡◌, refl, length}
+use Rattle.std.specs.Prelude.{ℕ, ◌+◌, ◌*◌, Bool, true, List, ◌++◌, ◌≡◌, refl, length, Some}
 use Rattle.std.proofs.Common.{ap, arith}
 use Rattle.chip.specs.declared.state.State.{State}
 use Rattle.chip.specs.State.{passes}
-use Rattle.counts.specs.declared.part.Lookup.TheVariants.{Known}
 use Rattle.counts.specs.declared.part.Part.{Part}
 use Rattle.counts.specs.Part.{part_of}
 use Rattle.fifo.specs.declared.sample.Outcome.{Outcome}
@@ -22,7 +21,7 @@ use Rattle.runs.specs.Run.{Progress, at_end, turn, turned, worked}
 abbrev pub Passing : Part → List ℕ → State → List ℕ → Type 0
 Passing part = Along (turned part) (λ s. passes part s ≡ true)
 
-pub sample_by_sample : (lenient : Bool) (number : ℕ) (part : Part) → part_of number ≡ Known part → (last : ℕ) (xs : List ℕ) (index : ℕ) (g : Progress)
+pub sample_by_sample : (lenient : Bool) (number : ℕ) (part : Part) → part_of number ≡ Some part → (last : ℕ) (xs : List ℕ) (index : ℕ) (g : Progress)
     → is_depth part (length g.memory) ≡ true → Passing part xs g.state g.memory
     → folded lenient (turned part) last xs index g ≡ folded lenient (λ x s memory. turn (sampled number x s memory)) last xs index g
 sample_by_sample lenient number part k =

@@ -8,7 +8,7 @@ ghost use Rattle.pins.specs.Trace as trace;
 ghost use Rattle.pins.specs.Trace.{whole_records};
 
 use chip::state::State;
-use counts::part::{Lookup, Part};
+use counts::part::Part;
 use fifo::sample::Outcome;
 use pins::trace::Record;
 
@@ -53,7 +53,7 @@ fn begin(
     ensures { Began lenient part trace.now state memory.old answers.old marks.old result memory.new answers.new marks.new }
 {
     let looked_up = counts::part::look_up(part);
-    let Lookup::Known(known) = looked_up else {
+    let Some(known) = looked_up else {
         return end_at(0, 0, 1, state);
     };
     let whole = trace.len() / 4;

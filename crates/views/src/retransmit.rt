@@ -3,7 +3,7 @@ ghost use Rattle.views.specs.Retransmit.{is_over, just_begun, is_seen, setup_aft
 ghost use Rattle.std.specs.Prelude.{◌≡◌};
 
 // How many more RCLK rises the setup lasts.
-#[derive(Clone, Copy)]
+#[derive(Clone, Copy, Debug, PartialEq, Eq)]
 pub enum Setup {
     Over,
     OneMore,
@@ -11,7 +11,7 @@ pub enum Setup {
 }
 
 // No count from after the last retransmit taken yet by a WCLK rise, one taken, or the retransmit seen.
-#[derive(Clone, Copy)]
+#[derive(Clone, Copy, Debug, PartialEq, Eq)]
 pub enum View {
     Unseen,
     Taken,
@@ -21,31 +21,19 @@ pub enum View {
 pub fn is_over(setup: Setup) -> bool
     ensures { result ≡ is_over setup }
 {
-    match setup {
-        Setup::Over => true,
-        Setup::OneMore => false,
-        Setup::TwoMore => false,
-    }
+    setup == Setup::Over
 }
 
 pub fn has_just_begun(setup: Setup) -> bool
     ensures { result ≡ just_begun setup }
 {
-    match setup {
-        Setup::Over => false,
-        Setup::OneMore => false,
-        Setup::TwoMore => true,
-    }
+    setup == Setup::TwoMore
 }
 
 pub fn is_seen(view: View) -> bool
     ensures { result ≡ is_seen view }
 {
-    match view {
-        View::Unseen => false,
-        View::Taken => false,
-        View::Seen => true,
-    }
+    view == View::Seen
 }
 
 pub fn setup_after(rises: bool, rt: bool, setup: Setup) -> Setup

@@ -3,14 +3,14 @@ ghost use Rattle.std.specs.Prelude.{◌+◌, ◌-◌, ◌<◌, ◌≤◌, ◌≡
 ghost use Rattle.views.specs.Tables.{beyond_memory, has_row, hf_level, limits_of, pae_level, paf_level, row_of, stands_at};
 
 // Table 1 is that of Standard mode, Table 2 that of FWFT.
-#[derive(Clone, Copy)]
+#[derive(Clone, Copy, Debug, PartialEq, Eq)]
 pub enum Table {
     One,
     Two,
 }
 
 // In the sheet's order.
-#[derive(Clone, Copy)]
+#[derive(Clone, Copy, Debug, PartialEq, Eq)]
 pub enum Row {
     Empty,
     AlmostEmpty,
@@ -21,7 +21,7 @@ pub enum Row {
 }
 
 // The last count of the rows AlmostEmpty and ToHalf, and the first of the rows AlmostFull and Full.
-#[derive(Clone, Copy)]
+#[derive(Clone, Copy, Debug, PartialEq, Eq)]
 pub struct Limits {
     pub few: u16,
     pub half: u16,
@@ -127,5 +127,5 @@ pub fn pae_level(row: Row) -> bool
 pub fn less(words: u16, fewer: u16) -> u16
     ensures { result ≡ words - fewer }
 {
-    if fewer <= words { words - fewer } else { 0 }
+    words.saturating_sub(fewer)
 }

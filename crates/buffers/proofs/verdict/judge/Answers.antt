@@ -9,11 +9,11 @@ returns-in_default c =
 pub returns-then-is_roomy : goal.returns-then-is_roomy
 returns-then-is_roomy c =
     let a = c.args in
-    judged_state a.part a.«record».now a.state.now a.memory a.answer c.look_up-looked_up.ensures c.in-Known.is c.is_roomy.ensures
+    judged_state a.part a.«record».now a.state.now a.memory a.answer c.look_up-looked_up.ensures c.in-Some.is c.is_roomy.ensures
     c.if-is_roomy.true c.judge_state.ensures
 
 pub returns-else-is_roomy : goal.returns-else-is_roomy
 returns-else-is_roomy c =
     let a = c.args in
-    judged_length a.part a.«record».now a.state.now a.memory a.answer c.look_up-looked_up.ensures c.in-Known.is c.is_roomy.ensures
+    judged_length a.part a.«record».now a.state.now a.memory a.answer c.look_up-looked_up.ensures c.in-Some.is c.is_roomy.ensures
     c.if-is_roomy.false

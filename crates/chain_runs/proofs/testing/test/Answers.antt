@@ -7,7 +7,7 @@ returns-in_default c = sym (by_unknown _ _ _ _ c.look_up-looked_up.ensures c.in_
 
 pub returns-then-is_several : goal.returns-then-is_several
 returns-then-is_several c =
-    c.test_known.ensures ∙ sym (by_known _ _ _ _ c.look_up-looked_up.ensures c.in-Known.is (sym c.is_several.ensures ∙ c.if-is_several.true))
+    c.test_known.ensures ∙ sym (by_known _ _ _ _ c.look_up-looked_up.ensures c.in-Some.is (sym c.is_several.ensures ∙ c.if-is_several.true))
 
 pub returns-else-is_several : goal.returns-else-is_several
-returns-else-is_several c = sym (by_few _ _ _ _ c.look_up-looked_up.ensures c.in-Known.is (sym c.is_several.ensures ∙ c.if-is_several.false))
+returns-else-is_several c = sym (by_few _ _ _ _ c.look_up-looked_up.ensures c.in-Some.is (sym c.is_several.ensures ∙ c.if-is_several.false))

@@ -16,7 +16,7 @@ pub returns-then-passes_test : goal.returns-then-passes_test
 returns-then-passes_test c =
     let a = c.args in
     samples_by
-    (sample_steps a.part a.«record» a.state a.memory.now c.look_up-looked_up.ensures _ c.in-Known.is
+    (sample_steps a.part a.«record» a.state a.memory.now c.look_up-looked_up.ensures _ c.in-Some.is
     (sym c.is_depth.ensures ∙ c.if-is_depth.true) (sym c.passes_test.ensures ∙ c.if-passes_test.true))
     c.step.ensures.gives
 
@@ -24,7 +24,7 @@ pub returns-else-passes_test : goal.returns-else-passes_test
 returns-else-passes_test c =
     let a = c.args in
     samples_by
-    (sample_state a.part a.«record» a.state a.memory.now c.look_up-looked_up.ensures _ c.in-Known.is
+    (sample_state a.part a.«record» a.state a.memory.now c.look_up-looked_up.ensures _ c.in-Some.is
     (sym c.is_depth.ensures ∙ c.if-is_depth.true) (sym c.passes_test.ensures ∙ c.if-passes_test.false))
     (gives_refusal c.turn_away-else-passes_test.ensures)
 
@@ -32,6 +32,6 @@ pub returns-else-is_depth : goal.returns-else-is_depth
 returns-else-is_depth c =
     let a = c.args in
     samples_by
-    (sample_length a.part a.«record» a.state a.memory.now c.look_up-looked_up.ensures _ c.in-Known.is
+    (sample_length a.part a.«record» a.state a.memory.now c.look_up-looked_up.ensures _ c.in-Some.is
     (sym c.is_depth.ensures ∙ c.if-is_depth.false))
     (gives_refusal c.turn_away-else-is_depth.ensures)

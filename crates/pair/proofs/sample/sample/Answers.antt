@@ -16,7 +16,7 @@ returns-then-not-are_depth c =
     let a = c.args in
     samples_by
     (sample_length a.part (two a.left a.right) a.state (two a.left_memory.now a.right_memory.now)
-    c.look_up-looked_up.ensures _ c.in-Known.is c.are_depth.ensures c.if-not-are_depth.true)
+    c.look_up-looked_up.ensures _ c.in-Some.is c.are_depth.ensures c.if-not-are_depth.true)
     (gives_refusal c.turn_away-then-not-are_depth.ensures)
 
 pub returns-then-not-passes_test : goal.returns-then-not-passes_test
@@ -24,7 +24,7 @@ returns-then-not-passes_test c =
     let a = c.args in
     samples_by
     (sample_state a.part (two a.left a.right) a.state (two a.left_memory.now a.right_memory.now)
-    c.look_up-looked_up.ensures _ c.in-Known.is c.are_depth.ensures c.if-not-are_depth.false
+    c.look_up-looked_up.ensures _ c.in-Some.is c.are_depth.ensures c.if-not-are_depth.false
     c.passes_test.ensures c.if-not-passes_test.true)
     (gives_refusal c.turn_away-then-not-passes_test.ensures)
 
@@ -36,6 +36,6 @@ returns c =
     let a = c.args in
     samples_by
     (sample_steps a.part (two a.left a.right) a.state (two a.left_memory.now a.right_memory.now)
-    c.look_up-looked_up.ensures _ c.in-Known.is c.are_depth.ensures c.if-not-are_depth.false
+    c.look_up-looked_up.ensures _ c.in-Some.is c.are_depth.ensures c.if-not-are_depth.false
     c.passes_test.ensures c.if-not-passes_test.false)
     c.step.ensures.gives

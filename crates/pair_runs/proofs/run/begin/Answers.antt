@@ -22,7 +22,7 @@ returns-then-passes_test c =
     let a = c.args in
     ends_by
     (run_works a.lenient a.part a.trace.now (started a.state (two a.left_memory.now a.right_memory.now) a.answers.now a.marks.now)
-    c.look_up-looked_up.ensures _ c.in-Known.is
+    c.look_up-looked_up.ensures _ c.in-Some.is
     (both_told c.are_depth-sized.ensures c.is_roomy.ensures c.if-sized-is_roomy.true)
     (sym c.passes_test.ensures ∙ c.if-passes_test.true))
     c.work.ensures
@@ -32,7 +32,7 @@ returns-else-passes_test c =
     let a = c.args in
     turned_away_lem {ran = ran_of}
     (run_state a.lenient a.part a.trace.now (started a.state (two a.left_memory.now a.right_memory.now) a.answers.now a.marks.now)
-    c.look_up-looked_up.ensures _ c.in-Known.is
+    c.look_up-looked_up.ensures _ c.in-Some.is
     (both_told c.are_depth-sized.ensures c.is_roomy.ensures c.if-sized-is_roomy.true)
     (sym c.passes_test.ensures ∙ c.if-passes_test.false))
     c.end_at-else-passes_test.ensures
@@ -42,7 +42,7 @@ returns-else-sized-is_roomy c =
     let a = c.args in
     turned_away_lem {ran = ran_of}
     (run_room a.lenient a.part a.trace.now (started a.state (two a.left_memory.now a.right_memory.now) a.answers.now a.marks.now)
-    c.look_up-looked_up.ensures _ c.in-Known.is
+    c.look_up-looked_up.ensures _ c.in-Some.is
     (both_told c.are_depth-sized.ensures c.is_roomy.ensures c.if-sized-is_roomy.false))
     c.end_at-else-sized-is_roomy.ensures
 
@@ -53,6 +53,6 @@ work-requires c =
       wide.0,
       wide.1,
       room_told a.lenient a.trace.now (started a.state (two a.left_memory.now a.right_memory.now) a.answers.now a.marks.now)
-          c.in-Known.known
+          c.in-Some.known
           (both_told c.are_depth-sized.ensures c.is_roomy.ensures c.if-sized-is_roomy.true),
     )

@@ -21,7 +21,7 @@ go-requires c =
     let a = c.args in (
       tested_widths _ a.state (sym c.passes_test.ensures ∙ c.if-passes_test.true),
       room_told a.lenient a.trace.now (started a.state a.memory.now a.answers.now a.marks.now)
-          c.in-Known.known
+          c.in-Some.known
           (both_told c.is_depth-sized.ensures c.is_roomy.ensures c.if-sized-is_roomy.true),
     )
 
@@ -30,7 +30,7 @@ returns-then-passes_test c =
     let a = c.args in
     ends_by
     (run_works a.lenient a.part a.trace.now (started a.state a.memory.now a.answers.now a.marks.now)
-    c.look_up-looked_up.ensures _ c.in-Known.is
+    c.look_up-looked_up.ensures _ c.in-Some.is
     (both_told c.is_depth-sized.ensures c.is_roomy.ensures c.if-sized-is_roomy.true)
     (sym c.passes_test.ensures ∙ c.if-passes_test.true))
     c.go.ensures
@@ -40,7 +40,7 @@ returns-else-passes_test c =
     let a = c.args in
     turned_away_lem {ran = ran_of}
     (run_state a.lenient a.part a.trace.now (started a.state a.memory.now a.answers.now a.marks.now)
-    c.look_up-looked_up.ensures _ c.in-Known.is
+    c.look_up-looked_up.ensures _ c.in-Some.is
     (both_told c.is_depth-sized.ensures c.is_roomy.ensures c.if-sized-is_roomy.true)
     (sym c.passes_test.ensures ∙ c.if-passes_test.false))
     c.end_at-else-passes_test.ensures
@@ -50,6 +50,6 @@ returns-else-sized-is_roomy c =
     let a = c.args in
     turned_away_lem {ran = ran_of}
     (run_room a.lenient a.part a.trace.now (started a.state a.memory.now a.answers.now a.marks.now)
-    c.look_up-looked_up.ensures _ c.in-Known.is
+    c.look_up-looked_up.ensures _ c.in-Some.is
     (both_told c.is_depth-sized.ensures c.is_roomy.ensures c.if-sized-is_roomy.false))
     c.end_at-else-sized-is_roomy.ensures
