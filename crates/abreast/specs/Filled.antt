@@ -1,6 +1,7 @@
 -- Two parts 255 filled from power-up: where so many writes lead them, of zeros into memories of zeros, which stay as they were.
 use Prim.Native.Nat.{ℕ, zero, suc, ◌+◌, ◌%◌, ◌≤◌, ◌<◌}
-use Rattle.std.specs.Prelude.{Bool, not, cond, List, [], ◌∷◌, ◌++◌, ◌≡◌, eqb, replicate, set}
+use Rattle.std.specs.Prelude.{Bool, not, cond, List, [], ◌∷◌, ◌++◌, ◌≡◌, eqb, replicate, set, Option, Some, None}
+use Rattle.counts.specs.declared.round.WriteCount.{WriteCount}
 use Rattle.std.proofs.Math.Bool.{true, false}
 use Rattle.std.proofs.Math.Path.{refl, ap}
 use Rattle.std.proofs.Common.{subst, ◌∙◌}
@@ -20,9 +21,6 @@ use Rattle.pins.specs.Record.{pins_of}
 use Rattle.sides.specs.Write as write
 use Rattle.views.specs.declared.retransmit.Setup.TheVariants.{Over}
 use Rattle.views.specs.declared.retransmit.View.TheVariants as view
-use Rattle.views.specs.declared.stages.ReadRise.TheVariants as readRise
-use Rattle.views.specs.declared.stages.WriteRise.{WriteRise}
-use Rattle.views.specs.declared.stages.WriteRise.TheVariants as writeRise
 use Rattle.views.specs.Flags.{paf_low}
 use Rattle.views.specs.TrueCounts.{TrueCounts, no_counts}
 use Rattle.halves.specs.Two.{two}
@@ -56,9 +54,9 @@ abbrev pub filled_then : Bool → List Records → List Records
 filled_then fwft later = two (reset_into fwft) (reset_into fwft) ∷ filling 8192 later
 
 -- the read side remembers the last write
-abbrev latest_at : ℕ → WriteRise
-latest_at zero = writeRise.NoneSince
-latest_at (suc k) = writeRise.Before (record { 0 = k })
+abbrev latest_at : ℕ → Option WriteCount
+latest_at zero = None
+latest_at (suc k) = Some (record { 0 = k })
 
 abbrev filled_state : Bool → Bool → ℕ → State
 filled_state fwft level k = record {
@@ -69,7 +67,7 @@ filled_state fwft level k = record {
     wrapped = false;
     first = record { 0 = 0 };
     second = record { 0 = 0 };
-    latest = readRise.NoneSince;
+    latest = None;
     view = view.Seen;
     paf = not (paf_low 8192 127 (less width k 0));
   };

@@ -5,13 +5,12 @@ use mathlib.Core.List.{List}
 use mathlib.Core.Path.{◌≡◌, refl, subst, ◌∙◌}
 use lib.ListN.{length}
 use native.Mathlib.Omega.{arith}
-use Rattle.std.specs.Prelude.{None, Option, Some}
+use Rattle.std.specs.Prelude.{None, Option, Some, ℕ}
+use Rattle.chip.specs.declared.advance.Put.{Put}
 use Rattle.buffers.specs.declared.verdict.Verdict.{Verdict}
 use Rattle.buffers.specs.declared.verdict.Verdict.TheVariants.{Refuse}
 use Rattle.buffers.specs.Memory.{Within, word_size}
 use Rattle.buffers.specs.Verdict.{judged, on_record, on_state, roomy}
-use Rattle.chip.specs.declared.advance.Store.{Store}
-use Rattle.chip.specs.declared.advance.Store.TheVariants.{Put}
 use Rattle.chip.specs.declared.state.State.{State}
 use Rattle.chip.specs.State.{passes}
 use Rattle.counts.specs.declared.part.Part.{Part}
@@ -44,6 +43,6 @@ module _ (number : ℕ) (bytes state : List ℕ) (memory answer : ℕ) {looked :
     unfolding judged
     judged_state holds g = g ∙ rw (← e, known) (rw (← f, holds) refl)
 
-pub in_reach : {store : Store} {place word at : ℕ} (memory : List ℕ) → store ≡ Put place word → at ≡ place * word_size → Within store (length memory)
+pub in_reach : {store : Option Put} {put : Put} {at : ℕ} (memory : List ℕ) → store ≡ Some put → at ≡ put.place * word_size → Within store (length memory)
     → at + 3 < length memory
-in_reach memory puts found within = let h = subst (λ (o : Store). Within o (length memory)) puts within in omega arith
+in_reach memory puts found within = let h = subst (λ (o : Option Put). Within o (length memory)) puts within in omega arith

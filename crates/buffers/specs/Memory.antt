@@ -1,7 +1,6 @@
 -- Bench figures, the C call: the memory as bytes, four a word.
-use Rattle.std.specs.Prelude.{ℕ, ◌+◌, ◌*◌, ◌<◌, List}
-use Rattle.chip.specs.declared.advance.Store.{Store}
-use Rattle.chip.specs.declared.advance.Store.TheVariants.{Keep, Put}
+use Rattle.std.specs.Prelude.{ℕ, ◌+◌, ◌*◌, ◌<◌, List, Option, Some, None}
+use Rattle.chip.specs.declared.advance.Put.{Put}
 use Rattle.chip.specs.declared.state.State.{State}
 use Rattle.counts.specs.declared.part.Part.{Part}
 use Rattle.counts.specs.Part.{depth_of}
@@ -19,11 +18,11 @@ memory_bytes part = depth_of part * word_size
 abbrev pub fetched_from : Part → State → List ℕ → ℕ
 fetched_from part s memory = word_at memory (place_of (depth_of part) s.read.count.0 * word_size)
 
-abbrev pub stored_in : Store → List ℕ → List ℕ
-stored_in Keep memory = memory
-stored_in (Put place word) memory = put_word memory (place * word_size) word
+abbrev pub stored_in : Option Put → List ℕ → List ℕ
+stored_in None memory = memory
+stored_in (Some put) memory = put_word memory (put.place * word_size) put.word
 
 -- the word to be stored lies in as many bytes
-abbrev pub Within : Store → ℕ → Type 0
-Within Keep bytes = Unit {0}
-Within (Put place word) bytes = place * word_size + 3 < bytes
+abbrev pub Within : Option Put → ℕ → Type 0
+Within None bytes = Unit {0}
+Within (Some put) bytes = put.place * word_size + 3 < bytes

@@ -1,13 +1,12 @@
 -- The C call: what stands when a record is to be worked.
 use Rattle.std.specs.Prelude.{ℕ, ◌+◌, ◌*◌, ◌<◌, Bool, true, false, cond, ◌&&◌, List, ◌≡◌, refl, eqb, length, Option, Some, None}
+use Rattle.chip.specs.declared.advance.Put.{Put}
 use Rattle.std.proofs.Math.Bool.{and-eq-true_iff}
 use Rattle.std.proofs.Common.{subst, eqb-true, arith}
 use Rattle.buffers.specs.declared.verdict.Verdict.{Verdict}
 use Rattle.buffers.specs.declared.verdict.Verdict.TheVariants.{Work, Refuse}
 use Rattle.buffers.specs.Memory.{Within, memory_bytes, word_size}
 use Rattle.buffers.specs.Verdict.{Lengths, Ready, answer_bytes, judged, on_record, on_state, roomy}
-use Rattle.chip.specs.declared.advance.Store.{Store}
-use Rattle.chip.specs.declared.advance.Store.TheVariants.{Keep, Put}
 use Rattle.chip.specs.Laws.{Placed}
 use Rattle.chip.specs.State.{passes}
 use Rattle.counts.specs.declared.part.Part.{Part}
@@ -27,9 +26,9 @@ roomy_lengths part state memory answer e =
 pub fetch_within : (part : Part) (count bytes : ℕ) → bytes ≡ memory_bytes part → place_of (depth_of part) count * word_size + 3 < bytes
 fetch_within part count bytes e = let below = place_below (place_bits part) count in omega arith
 
-pub store_within : (part : Part) (store : Store) (bytes : ℕ) → bytes ≡ memory_bytes part → Placed part store → Within store bytes
-store_within part Keep bytes e placed = tt
-store_within part (Put place word) bytes e placed = omega arith
+pub store_within : (part : Part) (store : Option Put) (bytes : ℕ) → bytes ≡ memory_bytes part → Placed part store → Within store bytes
+store_within part None bytes e placed = tt
+store_within part (Some put) bytes e placed = omega arith
 
 -- every test that a record to be worked has passed
 pub record Cleared (number : ℕ) (bytes state : List ℕ) (memory answer : ℕ) (part : Part) (x : ℕ) : Type 0 where

@@ -1,5 +1,6 @@
 -- One accepted sample: the next state, the answer, and what to store.
-use Rattle.std.specs.Prelude.{ℕ, cond, ◌&&◌, List, ◌≡◌, set}
+use Rattle.std.specs.Prelude.{ℕ, cond, ◌&&◌, List, ◌≡◌, set, Option, Some, None}
+use Rattle.chip.specs.declared.advance.Put.{Put}
 use Rattle.counts.specs.declared.part.Part.{Part}
 use Rattle.counts.specs.Part.{depth_of}
 use Rattle.counts.specs.Round.{place_of}
@@ -11,8 +12,6 @@ use Rattle.sides.specs.Clocks.{read_rises, write_rises}
 use Rattle.sides.specs.Read.{read_after}
 use Rattle.sides.specs.Write.{accepts, write_after}
 use Rattle.chip.specs.declared.advance.Advanced.{Advanced}
-use Rattle.chip.specs.declared.advance.Store.{Store}
-use Rattle.chip.specs.declared.advance.Store.TheVariants.{Keep, Put}
 use Rattle.chip.specs.declared.state.State.{State}
 use Rattle.chip.specs.Answer.{answer_of}
 use Rattle.chip.specs.Enables.{enables_after}
@@ -34,14 +33,14 @@ unfoldable pub state_after : Part → Pins → ℕ → State → State
 state_after part p fetched s = cond p.mrs (cond p.prs (running part p fetched s) (partial_reset p s)) (master_reset p s)
 
 -- only an accepted word is stored, and none in a reset
-unfoldable pub store_of : Part → Pins → State → Store
+unfoldable pub store_of : Part → Pins → State → Option Put
 store_of part p s = cond (p.mrs && p.prs && accepts (depth_of part) p s.write)
-    (Put (place_of (depth_of part) s.write.count.0) (word p.d)) Keep
+    (Some (record { place = place_of (depth_of part) s.write.count.0; word = word p.d })) None
 
 -- the memory's words after it did what was asked
-abbrev pub stored : Store → List ℕ → List ℕ
-stored Keep memory = memory
-stored (Put place value) memory = set memory place value
+abbrev pub stored : Option Put → List ℕ → List ℕ
+stored None memory = memory
+stored (Some put) memory = set memory put.place put.word
 
 unfoldable pub memory_after : Part → Pins → State → List ℕ → List ℕ
 memory_after part p s = stored (store_of part p s)

@@ -1,5 +1,5 @@
 -- The two sides: every count that a state holds is below the width, and stays so.
-use Rattle.std.specs.Prelude.{ℕ, ◌<◌, Bool, true, false, cond}
+use Rattle.std.specs.Prelude.{ℕ, ◌<◌, Bool, true, false, cond, Option, Some, None}
 use Rattle.std.proofs.Common.{arith}
 use Rattle.counts.specs.declared.part.Part.{Part}
 use Rattle.counts.specs.declared.round.ReadCount.{ReadCount}
@@ -14,11 +14,7 @@ use Rattle.sides.specs.declared.read.Mode.{Mode}
 use Rattle.sides.specs.Clocks.{read_rises, write_rises}
 use Rattle.sides.specs.Read.{delivers, read_after, read_count_after, retransmits, second_after_read}
 use Rattle.sides.specs.Write.{accepts, second_after_write, write_after, write_count_after}
-use Rattle.views.specs.declared.stages.ReadRise.{ReadRise}
-use Rattle.views.specs.declared.stages.ReadRise.TheVariants as readRise
-use Rattle.views.specs.declared.stages.WriteRise.{WriteRise}
-use Rattle.views.specs.declared.stages.WriteRise.TheVariants as writeRise
-use Rattle.views.specs.Stages.{latest_read, latest_write, taken_read, taken_write}
+use Rattle.views.specs.Stages.{rise_after, count_taken}
 use Rattle.chip.specs.declared.enables.Enables.{Enables}
 use Rattle.chip.specs.declared.state.State.{State}
 use Rattle.chip.specs.Advance.{advanced, running, state_after}
@@ -31,13 +27,13 @@ abbrev pub WriteBelow : WriteCount → Type 0
 WriteBelow count = count.0 < width
 
 -- a count that is remembered
-abbrev pub ReadRemembered : ReadRise → Type 0
-ReadRemembered readRise.NoneSince = Unit {0}
-ReadRemembered (readRise.Before count) = ReadBelow count
+abbrev pub ReadRemembered : Option ReadCount → Type 0
+ReadRemembered None = Unit {0}
+ReadRemembered (Some count) = ReadBelow count
 
-abbrev pub WriteRemembered : WriteRise → Type 0
-WriteRemembered writeRise.NoneSince = Unit {0}
-WriteRemembered (writeRise.Before count) = WriteBelow count
+abbrev pub WriteRemembered : Option WriteCount → Type 0
+WriteRemembered None = Unit {0}
+WriteRemembered (Some count) = WriteBelow count
 
 pub record Counted (s : State) : Type 0 where
   pub write : WriteBelow s.write.count
@@ -53,22 +49,22 @@ next_below : (moves : Bool) (count : ℕ) → count < width → cond moves (more
 next_below true count below = omega arith
 next_below false count below = below
 
-read_taken : (met : Bool) (latest : ReadRise) (count : ReadCount) → ReadRemembered latest → ReadBelow count → ReadBelow (taken_read met latest count)
-read_taken met readRise.NoneSince count held below = below
-read_taken met (readRise.Before earlier) count held below = either ReadBelow met count earlier below held
+read_taken : (met : Bool) (latest : Option ReadCount) (count : ReadCount) → ReadRemembered latest → ReadBelow count → ReadBelow (count_taken met latest count)
+read_taken met None count held below = below
+read_taken met (Some earlier) count held below = either ReadBelow met count earlier below held
 
-write_taken : (met : Bool) (latest : WriteRise) (count : WriteCount) → WriteRemembered latest → WriteBelow count → WriteBelow (taken_write met latest count)
-write_taken met writeRise.NoneSince count held below = below
-write_taken met (writeRise.Before earlier) count held below = either WriteBelow met count earlier below held
+write_taken : (met : Bool) (latest : Option WriteCount) (count : WriteCount) → WriteRemembered latest → WriteBelow count → WriteBelow (count_taken met latest count)
+write_taken met None count held below = below
+write_taken met (Some earlier) count held below = either WriteBelow met count earlier below held
 
-read_remembered : (own other : Bool) (count : ReadCount) (latest : ReadRise) → ReadBelow count → ReadRemembered latest
-    → ReadRemembered (latest_read own other count latest)
+read_remembered : (own other : Bool) (count : ReadCount) (latest : Option ReadCount) → ReadBelow count → ReadRemembered latest
+    → ReadRemembered (rise_after own other count latest)
 read_remembered own true count latest below held = below
 read_remembered true false count latest below held = tt
 read_remembered false false count latest below held = held
 
-write_remembered : (own other : Bool) (count : WriteCount) (latest : WriteRise) → WriteBelow count → WriteRemembered latest
-    → WriteRemembered (latest_write own other count latest)
+write_remembered : (own other : Bool) (count : WriteCount) (latest : Option WriteCount) → WriteBelow count → WriteRemembered latest
+    → WriteRemembered (rise_after own other count latest)
 write_remembered own true count latest below held = below
 write_remembered true false count latest below held = tt
 write_remembered false false count latest below held = held

@@ -1,5 +1,6 @@
 -- What callers may know of an answer and a store without opening their definitions.
-use Rattle.std.specs.Prelude.{ℕ, ◌%◌, ◌^◌, ◌≤◌, ◌<◌, Bool, true, false, cond, ◌&&◌, ◌≢◌, ◌≡◌}
+use Rattle.std.specs.Prelude.{ℕ, ◌%◌, ◌^◌, ◌≤◌, ◌<◌, Bool, true, false, cond, ◌&&◌, ◌≢◌, ◌≡◌, Option, Some, None}
+use Rattle.chip.specs.declared.advance.Put.{Put}
 use Rattle.std.proofs.Common.{◌∙◌, pow_mono, ltb-true, mod-eq_of_lt, arith}
 use Rattle.counts.specs.declared.part.Part.{Part}
 use Rattle.counts.specs.Laws.{place_below}
@@ -7,14 +8,10 @@ use Rattle.counts.specs.Part.{depth_of, offset_bits, place_bits, within}
 use Rattle.counts.specs.PartLaws.{offset_bits_lem}
 use Rattle.counts.specs.Round.{place_of}
 use Rattle.offsets.specs.Reading.{shown, shown_fits}
-use Rattle.offsets.specs.declared.reading.Shows.{Shows}
-use Rattle.offsets.specs.declared.reading.Shows.TheVariants.{Register, Offset}
 use Rattle.pins.specs.declared.record.Pins.{Pins}
 use Rattle.pins.specs.Laws.{laid}
 use Rattle.pins.specs.Record.{bit, is_word, word}
 use Rattle.sides.specs.Write.{accepts, full}
-use Rattle.chip.specs.declared.advance.Store.{Store}
-use Rattle.chip.specs.declared.advance.Store.TheVariants.{Keep, Put}
 use Rattle.chip.specs.declared.state.State.{State}
 use Rattle.chip.specs.Advance.{store_of}
 use Rattle.chip.specs.Answer.{answer_of, lines_of}
@@ -24,11 +21,11 @@ use Rattle.chip.specs.Tells.{Tells, both, fails, four, high, high_where, low, no
 use Rattle.chip.specs.Widths.{apart}
 
 -- a word goes to a place of the memory, with nothing above its 18 bits
-abbrev pub Placed : Part → Store → Type 0
-Placed part Keep = Unit {0}
-Placed part (Put place value) = (place < depth_of part) × (value < 2 ^ 18)
+abbrev pub Placed : Part → Option Put → Type 0
+Placed part None = Unit {0}
+Placed part (Some put) = (put.place < depth_of part) × (put.word < 2 ^ 18)
 
-placed_by : (part : Part) (stores : Bool) (count d : ℕ) → Placed part (cond stores (Put (place_of (depth_of part) count) (word d)) Keep)
+placed_by : (part : Part) (stores : Bool) (count d : ℕ) → Placed part (cond stores (Some (record { place = place_of (depth_of part) count; word = word d })) None)
 placed_by part true count d = (place_below (place_bits part) count, omega arith)
 placed_by part false count d = tt
 
@@ -46,8 +43,8 @@ accepted part p s = both (both (high p.mrs) (high p.prs)) (four (write_rise p s)
 
 -- D goes to memory at the write count modulo depth where it is accepted, and nothing does otherwise
 pub word_stored : (part : Part) (p : Pins) (s : State)
-    → (Accepted part p s → store_of part p s ≡ Put (s.write.count.0 % depth_of part) (p.d % 2 ^ 18))
-    × (¬ Accepted part p s → store_of part p s ≡ Keep)
+    → (Accepted part p s → store_of part p s ≡ Some (record { place = s.write.count.0 % depth_of part; word = p.d % 2 ^ 18 }))
+    × (¬ Accepted part p s → store_of part p s ≡ None)
 unfolding store_of
 word_stored part p s = (λ asked. simp ((high_where (accepted part p s)).1 asked), λ not_asked. simp (fails (accepted part p s) not_asked))
 
@@ -69,10 +66,10 @@ nothing_given part p s e = (laid (lines_of part p.oe s)).q ∙ simp e
 narrow : (bits x : ℕ) → bits ≤ 18 → within bits x ≡ true → word x ≡ x
 narrow bits x h e = mod-eq_of_lt (omega (arith, ltb-true x (2 ^ bits) e, pow_mono {i = bits} {j = 18} h))
 
-shown_narrow : (part : Part) (shows : Shows) (output : ℕ) → shown_fits part shows ≡ true → is_word output ≡ true
+shown_narrow : (part : Part) (shows : Option ℕ) (output : ℕ) → shown_fits part shows ≡ true → is_word output ≡ true
     → word (shown shows output) ≡ shown shows output
-shown_narrow part Register output e f = narrow 18 output (omega arith) f
-shown_narrow part (Offset offset) output e f = narrow (offset_bits part) offset (omega (arith, offset_bits_lem part)) e
+shown_narrow part None output e f = narrow 18 output (omega arith) f
+shown_narrow part (Some offset) output e f = narrow (offset_bits part) offset (omega (arith, offset_bits_lem part)) e
 
 -- OE LOW: the word is what Q shows, whole
 pub shown_given : (part : Part) (p : Pins) (s : State) → widths part s ≡ true → p.oe ≡ false

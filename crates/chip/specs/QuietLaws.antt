@@ -1,5 +1,5 @@
 -- A sample outside reset in which no clock rises: only what is remembered of the pins changes.
-use Rattle.std.specs.Prelude.{ℕ, Bool, true, false, not, ◌&&◌, ◌||◌, ◌≡◌, refl}
+use Rattle.std.specs.Prelude.{ℕ, Bool, true, false, not, ◌&&◌, ◌||◌, ◌≡◌, refl, None}
 use Rattle.std.proofs.Math.Bool.{and-eq-true_iff, and-false}
 use Rattle.std.proofs.lemmas.Bool.{not-true}
 use Rattle.counts.specs.declared.part.Part.{Part}
@@ -12,7 +12,6 @@ use Rattle.sides.specs.Held.{held_read, held_write}
 use Rattle.sides.specs.HeldLaws.{read_held, write_held}
 use Rattle.sides.specs.Read.{ready, retransmits, sees_word}
 use Rattle.sides.specs.Write.{accepts, full}
-use Rattle.chip.specs.declared.advance.Store.TheVariants.{Keep}
 use Rattle.chip.specs.declared.state.State.{State}
 use Rattle.chip.specs.Advance.{advanced, running, state_after, store_of}
 use Rattle.chip.specs.Answer.{answer_of, lines_of}
@@ -51,13 +50,13 @@ answer_held : (part : Part) (p : Pins) (s : State) → answer_of part p (held p 
 unfolding answer_of lines_of held full ready sees_word
 answer_held part p s = refl
 
-nothing_stored : (part : Part) (p : Pins) (s : State) → NoRise p s → store_of part p s ≡ Keep
+nothing_stored : (part : Part) (p : Pins) (s : State) → NoRise p s → store_of part p s ≡ None
 unfolding store_of accepts
 nothing_stored part p s e = simp (e.write, and-false)
 
 quiet_by : (part : Part) (p : Pins) (fetched : ℕ) (s after : State) → (NoRise p s → running part p fetched s ≡ after)
     → answer_of part p after ≡ answer_of part p s → quiet p s ≡ true
-    → advanced part p fetched s ≡ record { state = after; answer = answer_of part p s; store = Keep }
+    → advanced part p fetched s ≡ record { state = after; answer = answer_of part p s; store = None }
 unfolding advanced state_after quiet
 quiet_by part p fetched s after runs answers e =
     let outside = (and-eq-true_iff (p.mrs && p.prs) (not (clock_rises p s))).0 e in
@@ -66,6 +65,6 @@ quiet_by part p fetched s after runs answers e =
     simp (high.0, high.1, runs calm, answers, nothing_stored part p s calm)
 
 pub quiet_advanced : (part : Part) (p : Pins) (fetched : ℕ) (s : State) → quiet p s ≡ true
-    → advanced part p fetched s ≡ record { state = held p s; answer = answer_of part p s; store = Keep }
+    → advanced part p fetched s ≡ record { state = held p s; answer = answer_of part p s; store = None }
 unfolding held
 quiet_advanced part p fetched s = quiet_by part p fetched s (held p s) (running_held part p fetched s) (answer_held part p s)

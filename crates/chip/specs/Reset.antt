@@ -1,5 +1,5 @@
 -- Resets; and Trace sample, on power-up.
-use Rattle.std.specs.Prelude.{Bool, true, false, cond, ◌≡◌}
+use Rattle.std.specs.Prelude.{Bool, true, false, cond, ◌≡◌, None}
 use Rattle.offsets.specs.Reading.{ended}
 use Rattle.offsets.specs.Registers.{defaults}
 use Rattle.offsets.specs.declared.reading.Reading.{Reading}
@@ -10,8 +10,6 @@ use Rattle.sides.specs.declared.read.Mode.{Mode}
 use Rattle.sides.specs.declared.read.Mode.TheVariants.{Standard, Fwft}
 use Rattle.views.specs.declared.retransmit.Setup.TheVariants.{Over}
 use Rattle.views.specs.declared.retransmit.View.TheVariants.{Seen}
-use Rattle.views.specs.declared.stages.ReadRise.TheVariants as readRise
-use Rattle.views.specs.declared.stages.WriteRise.TheVariants as writeRise
 use Rattle.chip.specs.declared.enables.Enables.{Enables}
 use Rattle.chip.specs.declared.state.State.{State}
 use Rattle.chip.specs.Enables.{all_high, enables_after}
@@ -26,7 +24,7 @@ cleared started wclk rclk mode offsets reading enables = record {
     wrapped = false;
     first = record { 0 = 0 };
     second = record { 0 = 0 };
-    latest = readRise.NoneSince;
+    latest = None;
     view = Seen;
     paf = true;
   };
@@ -35,7 +33,7 @@ cleared started wclk rclk mode offsets reading enables = record {
     count = record { 0 = 0 };
     first = record { 0 = 0 };
     second = record { 0 = 0 };
-    latest = writeRise.NoneSince;
+    latest = None;
     setup = Over;
     pae = false;
     mode = mode;

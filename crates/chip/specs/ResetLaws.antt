@@ -1,5 +1,5 @@
 -- Resets, sentence by sentence. Trace sample: the state at power-up passes 3.
-use Rattle.std.specs.Prelude.{ℕ, ◌/◌, Bool, true, false, not, cond, ◌&&◌, List, ◌≡◌}
+use Rattle.std.specs.Prelude.{ℕ, ◌/◌, Bool, true, false, not, cond, ◌&&◌, List, ◌≡◌, None}
 use Rattle.std.proofs.Common.{true≢false, sym, le-ltb, ne_eqb, arith}
 use Rattle.std.proofs.Math.Path.{refl}
 use Rattle.std.proofs.Math.Dec.{leb-zero}
@@ -23,8 +23,6 @@ use Rattle.sides.specs.Write.{full}
 use Rattle.views.specs.Flags.{full_at, hf_low}
 use Rattle.views.specs.declared.retransmit.Setup.TheVariants.{Over}
 use Rattle.views.specs.declared.retransmit.View.TheVariants.{Seen}
-use Rattle.views.specs.declared.stages.ReadRise.TheVariants as readRise
-use Rattle.views.specs.declared.stages.WriteRise.TheVariants as writeRise
 use Rattle.chip.specs.declared.enables.Enables.{Enables}
 use Rattle.chip.specs.declared.state.State.{State}
 use Rattle.chip.specs.Advance.{memory_after, running, state_after, store_of}
@@ -83,7 +81,7 @@ pub record Cleared (p : Pins) (after : State) : Type 0 where
   pub counts : (after.write.count.0 ≡ 0) × (after.read.count.0 ≡ 0)
   pub write_stages : (after.write.first.0 ≡ 0) × (after.write.second.0 ≡ 0)
   pub read_stages : (after.read.first.0 ≡ 0) × (after.read.second.0 ≡ 0)
-  pub latest : (after.write.latest ≡ readRise.NoneSince) × (after.read.latest ≡ writeRise.NoneSince)
+  pub latest : (after.write.latest ≡ None) × (after.read.latest ≡ None)
   pub retransmit : (after.write.view ≡ Seen) × (after.read.setup ≡ Over)
   pub output : after.read.output ≡ 0
 

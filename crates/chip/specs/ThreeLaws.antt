@@ -1,11 +1,9 @@
 -- What is turned away, 3: a state passes exactly where each clause of the row holds of it.
-use Rattle.std.specs.Prelude.{ℕ, ◌^◌, ◌≤◌, ◌<◌, true, ◌≡◌, refl}
+use Rattle.std.specs.Prelude.{ℕ, ◌^◌, ◌≤◌, ◌<◌, true, ◌≡◌, refl, Option, Some, None}
 use borrow.Author.Tests.{le-leb, leb-true, lt-ltb, ltb-true}
 use Rattle.counts.specs.declared.part.Part.{Part}
 use Rattle.counts.specs.Both.{both}
 use Rattle.counts.specs.Part.{depth_of, offset_bits}
-use Rattle.offsets.specs.declared.reading.Shows.{Shows}
-use Rattle.offsets.specs.declared.reading.Shows.TheVariants.{Register, Offset}
 use Rattle.offsets.specs.Fits.{Fits, fits, fitting}
 use Rattle.offsets.specs.Reading.{shown_fits}
 use Rattle.chip.specs.declared.state.State.{State}
@@ -14,9 +12,9 @@ use Rattle.chip.specs.State.{in_reach, passes, widths}
 use Rattle.chip.specs.Widths.{apart}
 
 -- the offset shown, while it is
-abbrev pub ShownBelow : ℕ → Shows → Type 0
-ShownBelow limit Register = Unit {0}
-ShownBelow limit (Offset x) = x < limit
+abbrev pub ShownBelow : ℕ → Option ℕ → Type 0
+ShownBelow limit None = Unit {0}
+ShownBelow limit (Some x) = x < limit
 
 pub record Passing (part : Part) (s : State) : Type 0 where
   pub offsets : Fits part s.offsets
@@ -29,13 +27,13 @@ pub record Passing (part : Part) (s : State) : Type 0 where
   pub read_second : less_round s.write.count.0 s.read.second.0 ≤ depth_of part
   pub not_behind : less_round s.write.count.0 s.read.second.0 ≤ less_round s.write.count.0 s.read.count.0
 
-shown_below : (part : Part) (shows : Shows) → shown_fits part shows ≡ true → ShownBelow (2 ^ offset_bits part) shows
-shown_below part Register e = tt
-shown_below part (Offset x) e = ltb-true x (2 ^ offset_bits part) e
+shown_below : (part : Part) (shows : Option ℕ) → shown_fits part shows ≡ true → ShownBelow (2 ^ offset_bits part) shows
+shown_below part None e = tt
+shown_below part (Some x) e = ltb-true x (2 ^ offset_bits part) e
 
-below_shown : (part : Part) (shows : Shows) → ShownBelow (2 ^ offset_bits part) shows → shown_fits part shows ≡ true
-below_shown part Register h = refl
-below_shown part (Offset x) h = lt-ltb x (2 ^ offset_bits part) h
+below_shown : (part : Part) (shows : Option ℕ) → ShownBelow (2 ^ offset_bits part) shows → shown_fits part shows ≡ true
+below_shown part None h = refl
+below_shown part (Some x) h = lt-ltb x (2 ^ offset_bits part) h
 
 module _ (part : Part) (s : State) where
   pub three_spares : passes part s ≡ true → Passing part s

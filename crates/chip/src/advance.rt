@@ -3,23 +3,22 @@ ghost use Rattle.chip.specs.Advance.{Advances, running, state_after, store_of};
 ghost use Rattle.chip.specs.State.{widths};
 ghost use Rattle.std.specs.Prelude.{true, ◌≡◌};
 
-use super::enables::Enables;
 use super::state::State;
 use counts::part::Part;
 use pins::record::Pins;
 
-// What the memory is to do: keep all its words, or take a word at a place.
-#[derive(Clone, Copy)]
-pub enum Store {
-    Keep,
-    Put(u16, u32),
+// A word that the memory is to take, and the place where.
+#[derive(Clone, Copy, Debug, PartialEq, Eq)]
+pub struct Put {
+    pub place: u16,
+    pub word: u32,
 }
 
-#[derive(Clone, Copy)]
+#[derive(Clone, Copy, Debug, PartialEq, Eq)]
 pub struct Advanced {
     pub state: State,
     pub answer: u32,
-    pub store: Store,
+    pub store: Option<Put>,
 }
 
 // `fetched` is the word of the memory at the place of the read count.
@@ -32,9 +31,9 @@ pub fn advance(part: Part, p: Pins, fetched: u32, s: State) -> Advanced
     let answer = super::answer::answer(part, p, state);
     let store = store_of(part, p, s);
     Advanced {
-        state: state,
-        answer: answer,
-        store: store,
+        state,
+        answer,
+        store,
     }
 }
 
@@ -54,44 +53,35 @@ fn state_after(part: Part, p: Pins, fetched: u32, s: State) -> State
     }
 }
 
-#[tactic(auto, unfolding(crate::specs::Advance::running))]
+#[tactic(auto, using(crate::specs::Widths::apart), unfolding(crate::specs::Advance::running))]
 fn run(part: Part, p: Pins, fetched: u32, s: State) -> State
     requires { widths part s ≡ true }
     ensures { result ≡ running part p fetched s }
 {
-    let before = s.offsets;
+    let n = s.offsets.n;
+    let m = s.offsets.m;
     let write_rises = sides::clocks::write_rises(p, s.write);
     let read_rises = sides::clocks::read_rises(p, s.read);
-    let offsets = offsets::loading::load(part, p, write_rises, before);
-    let reading = offsets::reading::read_offset(p, read_rises, before, s.reading);
-    let write = sides::write::write_after(part, before.n, before.m, p, s.read, s.write);
-    let read = sides::read::read_after(part, before.n, before.m, p, fetched, s.write, s.read);
-    let enables = super::enables::enables_after(p, s);
     State {
-        started: s.started,
-        write: write,
-        read: read,
-        offsets: offsets,
-        reading: reading,
-        enables: Enables {
-            rt: enables.rt,
-            ren: enables.ren,
-            wen: enables.wen,
-            clean: enables.clean,
-        },
+        write: sides::write::write_after(part, n, m, p, s.read, s.write),
+        read: sides::read::read_after(part, n, m, p, fetched, s.write, s.read),
+        offsets: offsets::loading::load(part, p, write_rises, s.offsets),
+        reading: offsets::reading::read_offset(p, read_rises, s.offsets, s.reading),
+        enables: super::enables::enables_after(p, s),
+        ..s
     }
 }
 
 #[tactic(auto, unfolding(crate::specs::Advance::store_of))]
-fn store_of(part: Part, p: Pins, s: State) -> Store
+fn store_of(part: Part, p: Pins, s: State) -> Option<Put>
     ensures { result ≡ store_of part p s }
 {
     if p.mrs & p.prs & sides::write::accepts_word(part, p, s.write) {
-        Store::Put(
-            counts::round::write_place(part, s.write.count),
-            pins::record::low_word(p.d),
-        )
+        Some(Put {
+            place: counts::round::place(part, s.write.count),
+            word: pins::record::low_word(p.d),
+        })
     } else {
-        Store::Keep
+        None
     }
 }

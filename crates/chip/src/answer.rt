@@ -19,24 +19,21 @@ pub fn answer(part: Part, p: Pins, s: State) -> u32
 pub fn lines(part: Part, oe: bool, s: State) -> Lines
     ensures { result ≡ lines_of part oe s }
 {
-    let read = s.read;
-    let mode = read.mode;
-    let reading = s.reading;
-    let shows = reading.shows;
+    let mode = s.read.mode;
     let ff = ff_level(mode, sides::write::is_full(part, s.write));
-    let ef = ef_level(mode, sides::read::is_ready(read));
+    let ef = ef_level(mode, sides::read::is_ready(s.read));
     let words = counts::round::words_ahead(s.write.count, s.read.count);
     let table = sides::read::table_of(mode);
     let hf = !views::flags::is_hf_low(table, part, s.offsets.n, s.offsets.m, words);
-    let q = offsets::reading::show(shows, s.read.output);
+    let q = offsets::reading::show(s.reading.shows, s.read.output);
     Lines {
-        ff: ff,
-        ef: ef,
-        hf: hf,
+        ff,
+        ef,
+        hf,
         pae: s.read.pae,
         paf: s.write.paf,
         driven: !oe,
-        q: q,
+        q,
     }
 }
 

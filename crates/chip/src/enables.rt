@@ -6,7 +6,7 @@ use super::state::State;
 use pins::record::Pins;
 
 // The levels in the last sample taken, and whether REN and WEN were HIGH at RT's last fall and in the sample taken before it.
-#[derive(Clone, Copy)]
+#[derive(Clone, Copy, Debug, PartialEq, Eq)]
 pub struct Enables {
     pub rt: bool,
     pub ren: bool,
@@ -38,6 +38,6 @@ pub fn enables_after(p: Pins, s: State) -> Enables
         rt: p.rt,
         ren: p.ren,
         wen: p.wen,
-        clean: clean,
+        clean,
     }
 }

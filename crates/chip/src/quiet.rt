@@ -2,7 +2,6 @@
 ghost use Rattle.chip.specs.Quiet.{clock_rises, held, quiet};
 ghost use Rattle.std.specs.Prelude.{◌≡◌};
 
-use super::enables::Enables;
 use super::state::State;
 use pins::record::Pins;
 
@@ -23,27 +22,10 @@ pub fn is_quiet(p: Pins, s: State) -> bool
 pub fn hold(p: Pins, s: State) -> State
     ensures { result ≡ held p s }
 {
-    let write = s.write;
-    let read = s.read;
-    let latest_read = write.latest;
-    let latest_write = read.latest;
-    let view = write.view;
-    let held_write = sides::write::hold(p.wclk, latest_read, view, write);
-    let held_read = sides::read::hold(p.rclk, latest_write, read);
-    let offsets = s.offsets;
-    let reading = s.reading;
-    let enables = super::enables::enables_after(p, s);
     State {
-        started: s.started,
-        write: held_write,
-        read: held_read,
-        offsets: offsets,
-        reading: reading,
-        enables: Enables {
-            rt: enables.rt,
-            ren: enables.ren,
-            wen: enables.wen,
-            clean: enables.clean,
-        },
+        write: sides::write::hold(p.wclk, s.write.latest, s.write.view, s.write),
+        read: sides::read::hold(p.rclk, s.read.latest, s.read),
+        enables: super::enables::enables_after(p, s),
+        ..s
     }
 }

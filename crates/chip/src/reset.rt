@@ -11,7 +11,6 @@ use pins::record::Pins;
 use sides::read::{Mode, ReadSide};
 use sides::write::WriteSide;
 use views::retransmit::{Setup, View};
-use views::stages::{ReadRise, WriteRise};
 
 #[tactic(auto, unfolding(crate::specs::Reset::powered_up))]
 pub fn power_up() -> State
@@ -43,12 +42,8 @@ pub(crate) fn reset_master(p: Pins, s: State) -> State
 pub(crate) fn reset_partial(p: Pins, s: State) -> State
     ensures { result ≡ partial_reset p s }
 {
-    let read = s.read;
-    let before = read.mode;
-    let mode = keep_mode(before);
-    let before_reading = s.reading;
-    let next = before_reading.next;
-    let reading = offsets::reading::end_showing(next);
+    let mode = keep_mode(s.read.mode);
+    let reading = offsets::reading::end_showing(s.reading.next);
     let enables = super::enables::enables_after(p, s);
     clear(s.started, p.wclk, p.rclk, mode, s.offsets, reading, enables)
 }
@@ -66,14 +61,14 @@ fn clear(
     ensures { result ≡ cleared started wclk rclk mode offsets reading enables }
 {
     State {
-        started: started,
+        started,
         write: WriteSide {
             level: wclk,
             count: WriteCount(0),
             wrapped: false,
             first: ReadCount(0),
             second: ReadCount(0),
-            latest: ReadRise::NoneSince,
+            latest: None,
             view: View::Seen,
             paf: true,
         },
@@ -82,20 +77,15 @@ fn clear(
             count: ReadCount(0),
             first: WriteCount(0),
             second: WriteCount(0),
-            latest: WriteRise::NoneSince,
+            latest: None,
             setup: Setup::Over,
             pae: false,
-            mode: mode,
+            mode,
             output: 0,
         },
-        offsets: offsets,
-        reading: reading,
-        enables: Enables {
-            rt: enables.rt,
-            ren: enables.ren,
-            wen: enables.wen,
-            clean: enables.clean,
-        },
+        offsets,
+        reading,
+        enables,
     }
 }
 

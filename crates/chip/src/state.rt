@@ -12,7 +12,7 @@ use sides::read::{Mode, ReadSide};
 use sides::write::WriteSide;
 
 // `started` says that there has been a Master Reset.
-#[derive(Clone, Copy)]
+#[derive(Clone, Copy, Debug, PartialEq, Eq)]
 pub struct State {
     pub started: bool,
     pub write: WriteSide,
@@ -33,10 +33,8 @@ pub fn passes_test(part: Part, s: State) -> bool
 fn fits_widths(part: Part, s: State) -> bool
     ensures { result ≡ widths part s }
 {
-    let reading = s.reading;
-    let shows = reading.shows;
     offsets::registers::offsets_fit(part, s.offsets)
-        & offsets::reading::shown_fits(part, shows)
+        & offsets::reading::shown_fits(part, s.reading.shows)
         & pins::record::is_word(s.read.output)
 }
 
@@ -59,10 +57,5 @@ fn is_in_reach(part: Part, s: State) -> bool
 pub fn is_fwft(s: State) -> bool
     ensures { result ≡ is_fwft s.read.mode }
 {
-    let read = s.read;
-    let mode = read.mode;
-    match mode {
-        Mode::Standard => false,
-        Mode::Fwft { untaken: _ } => true,
-    }
+    matches!(s.read.mode, Mode::Fwft { .. })
 }

@@ -1,5 +1,6 @@
-// The two counts, round their width, and the two parts.
+// The two counts, round their width, the two parts, and a choice between two values.
 #![tactic(auto)]
 
+pub mod choice;
 pub mod part;
 pub mod round;

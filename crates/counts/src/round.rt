@@ -6,11 +6,11 @@ ghost use Rattle.std.specs.Prelude.{cond, refl, ◌≡◌, ℕ};
 use super::part::Part;
 
 // Of words written to memory.
-#[derive(Clone, Copy)]
+#[derive(Clone, Copy, Debug, PartialEq, Eq)]
 pub struct WriteCount(pub u16);
 
 // Of words delivered from memory.
-#[derive(Clone, Copy)]
+#[derive(Clone, Copy, Debug, PartialEq, Eq)]
 pub struct ReadCount(pub u16);
 
 // What either count is, to those who ask no more than its number.

@@ -1,9 +1,8 @@
 -- A refused sample moves nothing, a taken one keeps the widths, and the memory keeps its length.
-use Rattle.std.specs.Prelude.{ℕ, Bool, true, false, cond, List, ◌≡◌, refl, eqb, length, Some}
+use Rattle.std.specs.Prelude.{ℕ, Bool, true, false, cond, List, ◌≡◌, refl, eqb, length, Some, Option, None}
+use Rattle.chip.specs.declared.advance.Put.{Put}
 use Rattle.std.proofs.Common.{length-set, arith}
 use Rattle.chip.specs.declared.advance.Advanced.{Advanced}
-use Rattle.chip.specs.declared.advance.Store.{Store}
-use Rattle.chip.specs.declared.advance.Store.TheVariants.{Keep, Put}
 use Rattle.chip.specs.declared.state.State.{State}
 use Rattle.chip.specs.Advance.{advanced, stored}
 use Rattle.chip.specs.State.{passes, widths}
@@ -26,9 +25,9 @@ widths_by : (takes : Bool) (part : Part) (a : Advanced) (number : ℕ) (s : Stat
 widths_by true part a number s memory f e = f
 widths_by false part a number s memory f e = e
 
-pub stored_length : (store : Store) (memory : List ℕ) → length (stored store memory) ≡ length memory
-stored_length Keep memory = refl
-stored_length (Put place word) memory = length-set memory place word
+pub stored_length : (store : Option Put) (memory : List ℕ) → length (stored store memory) ≡ length memory
+stored_length None memory = refl
+stored_length (Some put) memory = length-set memory put.place put.word
 
 length_by : (takes : Bool) (a : Advanced) (number : ℕ) (s : State) (memory : List ℕ)
     → length (cond takes (took a memory) (turned_away number s memory)).memory ≡ length memory

@@ -1,7 +1,6 @@
 -- A record that is never refused and moves only what is remembered of the pins.
-use Rattle.std.specs.Prelude.{ℕ, true, List, ◌≡◌}
+use Rattle.std.specs.Prelude.{ℕ, true, List, ◌≡◌, None}
 use Rattle.std.proofs.Common.{eq-eqb}
-use Rattle.chip.specs.declared.advance.Store.TheVariants.{Keep}
 use Rattle.chip.specs.declared.state.State.{State}
 use Rattle.chip.specs.Answer.{answer_of}
 use Rattle.chip.specs.Quiet.{held, quiet}
@@ -25,7 +24,7 @@ unfolding record_refusal
 still_free part x s e = let a = apart x s e in quiet_free part (pins_of x) s a.0 a.1
 
 pub still_stepped : (part : Part) (x : ℕ) (s : State) (memory : List ℕ) → still x s ≡ true
-    → stepped part x s memory ≡ took (record { state = held (pins_of x) s; answer = answer_of part (pins_of x) s; store = Keep }) memory
+    → stepped part x s memory ≡ took (record { state = held (pins_of x) s; answer = answer_of part (pins_of x) s; store = None }) memory
 unfolding stepped taken
 still_stepped part x s memory e =
     simp (eq-eqb _ _ (still_free part x s e), quiet_advanced part (pins_of x) (fetched_for part s memory) s (still_quiet x s e))

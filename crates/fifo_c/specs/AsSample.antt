@@ -1,10 +1,9 @@
 -- The C call is the sample: on bytes, it gives what `sample` gives on what the bytes spell.
 use Rattle.std.specs.Prelude.{ℕ, ◌%◌, Bool, true, false, cond, ◌≢◌, List, ◌≡◌, refl, eqb, length, Option, Some, None}
+use Rattle.chip.specs.declared.advance.Put.{Put}
 use Rattle.std.proofs.Math.Bool.{and-true}
 use Rattle.std.proofs.Common.{sym, eq-eqb, eqb-true, ne_eqb, arith}
 use Rattle.std.proofs.lemmas.Bool.{eqb-false}
-use Rattle.chip.specs.declared.advance.Store.{Store}
-use Rattle.chip.specs.declared.advance.Store.TheVariants.{Keep, Put}
 use Rattle.chip.specs.declared.state.State.{State}
 use Rattle.chip.specs.Advance.{advanced, store_of, stored}
 use Rattle.chip.specs.Counted.{counts_stay}
@@ -41,10 +40,10 @@ pub record AsSample (c : Called) (a : After) (answer : List ℕ) : Type 0 where
   pub words : words_in c.memory ≡ a.memory
   pub room : c.answer ≡ answers_after a.sampled.outcome 0 answer
 
-stored_words : (part : Part) (store : Store) (memory : List ℕ) → length memory ≡ memory_bytes part → Placed part store
+stored_words : (part : Part) (store : Option Put) (memory : List ℕ) → length memory ≡ memory_bytes part → Placed part store
     → words_in (stored_in store memory) ≡ stored store (words_in memory)
-stored_words part Keep memory e placed = refl
-stored_words part (Put place word) memory e placed = words_put memory place (omega arith) word (omega arith)
+stored_words part None memory e placed = refl
+stored_words part (Some put) memory e placed = words_put memory put.place (omega arith) put.word (omega arith)
 
 module _ (state memory answer : List ℕ) (own : spells state ≡ true) (room : length state ≡ state_bytes) (small : Bytes state) where
   abbrev s : State

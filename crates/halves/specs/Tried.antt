@@ -1,6 +1,5 @@
 -- Two parts side by side: what each makes of its record, before either moves.
-use Rattle.std.specs.Prelude.{ℕ, List}
-use Rattle.chip.specs.declared.advance.Store.TheVariants.{Keep}
+use Rattle.std.specs.Prelude.{ℕ, List, None}
 use Rattle.chip.specs.declared.state.State.{State}
 use Rattle.chip.specs.Advance.{advanced}
 use Rattle.counts.specs.declared.part.Part.{Part}
@@ -17,7 +16,7 @@ asking part x s memory = record {
   asked = x;
   fetched = fetched_for part s memory;
   number = 0;
-  advanced = record { state = s; answer = 0; store = Keep };
+  advanced = record { state = s; answer = 0; store = None };
 }
 
 -- the part's own number, and what the part gives if the record is taken

@@ -1,12 +1,11 @@
 -- Calls lead where their records lead one by one.
-use Rattle.std.specs.Prelude.{ℕ, ◌*◌, Bool, cond, ◌≢◌, ◌≡◌, eqb, length}
+use Rattle.std.specs.Prelude.{ℕ, ◌*◌, Bool, cond, ◌≢◌, ◌≡◌, eqb, length, Option, Some, None}
+use Rattle.chip.specs.declared.advance.Put.{Put}
 use Rattle.std.proofs.Math.Bool.{true, false, and-eq-true_iff}
 use Rattle.std.proofs.Common.{true≢false, sym, ap, ◌∙◌, eq-eqb, eqb-true}
 use mathlib.Core.List.{List, [], ◌∷◌}
 use Rattle.std.proofs.Math.Path.{refl, subst}
 use native.Mathlib.Omega.{arith}
-use Rattle.chip.specs.declared.advance.Store.{Store}
-use Rattle.chip.specs.declared.advance.Store.TheVariants.{Keep, Put}
 use Rattle.chip.specs.declared.state.State.{State}
 use Rattle.chip.specs.Advance.{advanced}
 use Rattle.chip.specs.Answer.{answer_of}
@@ -42,9 +41,9 @@ use Rattle.history.specs.LedLaws.{not_three}
 use Rattle.history.specs.Told.{Told}
 use Rattle.history.specs.Trace.{Answers, Moment, answer_at, led, next, outcome, power_up}
 
-stored_length : (store : Store) (memory : List ℕ) → length (stored_in store memory) ≡ length memory
-stored_length Keep memory = refl
-stored_length (Put place word) memory = put_length memory (place * word_size) word
+stored_length : (store : Option Put) (memory : List ℕ) → length (stored_in store memory) ≡ length memory
+stored_length None memory = refl
+stored_length (Some put) memory = put_length memory (put.place * word_size) put.word
 
 length_decided : (free : Bool) (number : ℕ) (part : Part) (x : ℕ) (state memory answer : List ℕ) → length (decided free number part x state memory answer).memory ≡ length memory
 unfolding taken

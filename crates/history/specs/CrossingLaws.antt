@@ -1,5 +1,5 @@
 -- What the onlooker has of each side's stages is what the model's stages hold round their width.
-use Rattle.std.specs.Prelude.{ℕ, ◌-◌, Bool, not, cond, ◌&&◌, ◌||◌, ◌≡◌, refl, eqb, length}
+use Rattle.std.specs.Prelude.{ℕ, ◌-◌, Bool, not, cond, ◌&&◌, ◌||◌, ◌≡◌, refl, eqb, length, is_some}
 use Rattle.std.proofs.Math.Bool.{true, false}
 use mathlib.Core.List.{List, [], ◌∷◌}
 use Rattle.std.proofs.Common.{sym}
@@ -25,7 +25,6 @@ use Rattle.sides.specs.Write.{write_after}
 use Rattle.views.specs.declared.retransmit.Setup.{Setup}
 use Rattle.views.specs.declared.retransmit.Setup.TheVariants.{Over, OneMore, TwoMore}
 use Rattle.views.specs.Retransmit.{setup_after}
-use Rattle.views.specs.Stages.{read_rose, write_rose}
 use Rattle.views.specs.TrueCounts.{TrueCounts, across, no_counts}
 use Rattle.history.specs.Crossing.{Crossing, crossed, crossed_led, crossed_next, crossed_on, crosses, uncrossed}
 use Rattle.history.specs.EventLaws.{rises_told, wclk_told}
@@ -46,8 +45,8 @@ pub record Crosses (s : State) (t : TrueCounts) (c : Crossing) : Type 0 where
   pub read_second : c.read_second ≡ t.read_second
   pub delivered_before : c.delivered_before ≡ t.read_before
   pub accepted_before : c.accepted_before ≡ t.written_before
-  pub rclk_since : c.rclk_since ≡ read_rose s.write.latest
-  pub wclk_since : c.wclk_since ≡ write_rose s.read.latest
+  pub rclk_since : c.rclk_since ≡ is_some s.write.latest
+  pub wclk_since : c.wclk_since ≡ is_some s.read.latest
   pub wait : c.wait ≡ rises_left s.read.setup
 
 across_by : (met since : Bool) (before now : ℕ) → crosses met since before now ≡ across met since now before

@@ -1,9 +1,8 @@
 -- Each sample that is taken keeps what holds between the model and the onlooker's notes; a reset starts the notes over.
-use Rattle.std.specs.Prelude.{ℕ, Bool, true, false, cond, ◌&&◌, List, ◌≡◌, refl, length}
+use Rattle.std.specs.Prelude.{ℕ, Bool, true, false, cond, ◌&&◌, List, ◌≡◌, refl, length, Option, None}
+use Rattle.chip.specs.declared.advance.Put.{Put}
 use Rattle.std.proofs.Math.Path.{sym}
 use Rattle.std.proofs.Common.{◌∙◌, arith}
-use Rattle.chip.specs.declared.advance.Store.{Store}
-use Rattle.chip.specs.declared.advance.Store.TheVariants.{Keep}
 use Rattle.chip.specs.declared.enables.Enables.{Enables}
 use Rattle.chip.specs.declared.state.State.{State}
 use Rattle.chip.specs.Advance.{advanced, running, state_after, store_of, stored}
@@ -60,10 +59,10 @@ module _ (part : Part) (memory : List ℕ) (whole : length memory ≡ depth_of p
   agrees_partial s fwft e = agrees_over _ fwft _ _ _ _ (e ∙ sym (kept_fwft s.read.mode)) (partial_none s.read.mode)
 
 -- by the two reset pins
-by_reset : (P : State → Store → Notes → TrueCounts → Type 0) (mrs prs stores : Bool) (on kept fresh : State) (put : Store) (noting : State → Notes)
-    (over anew : Notes) (t u : TrueCounts) → (mrs && prs ≡ true → P on (cond stores put Keep) (noting on) t) → P kept Keep over u → P fresh Keep anew u
+by_reset : (P : State → Option Put → Notes → TrueCounts → Type 0) (mrs prs stores : Bool) (on kept fresh : State) (put : Option Put) (noting : State → Notes)
+    (over anew : Notes) (t u : TrueCounts) → (mrs && prs ≡ true → P on (cond stores put None) (noting on) t) → P kept None over u → P fresh None anew u
     → let s = cond mrs (cond prs on kept) fresh in
-    P s (cond (mrs && prs && stores) put Keep) (cond mrs (cond prs (noting s) over) anew) (cond mrs (cond prs t u) u)
+    P s (cond (mrs && prs && stores) put None) (cond mrs (cond prs (noting s) over) anew) (cond mrs (cond prs t u) u)
 by_reset P true true stores on kept fresh put noting over anew t u a b c = a refl
 by_reset P true false stores on kept fresh put noting over anew t u a b c = b
 by_reset P false prs stores on kept fresh put noting over anew t u a b c = c

@@ -1,5 +1,5 @@
 -- A trace, sample by sample through the model's own definition of one sample, with an onlooker beside it.
-use Rattle.std.specs.Prelude.{ℕ, zero, suc, ◌+◌, ◌*◌, ◌^◌, Bool, true, false, not, cond, ◌&&◌, ◌||◌, List, [], ◌∷◌, ◌≡◌, get_or, take}
+use Rattle.std.specs.Prelude.{ℕ, zero, suc, ◌+◌, ◌*◌, ◌^◌, Bool, true, false, not, cond, ◌&&◌, ◌||◌, List, [], ◌∷◌, ◌≡◌, get_or, take, None}
 use Rattle.chip.specs.declared.state.State.{State}
 use Rattle.chip.specs.Answer.{lines_of}
 use Rattle.chip.specs.Reset.{powered_up}
@@ -9,7 +9,6 @@ use Rattle.counts.specs.Round.{place_of}
 use Rattle.notes.specs.Fold.{started}
 use Rattle.runs.specs.Run.{Ended, run_of}
 use Rattle.fifo.specs.Sample.{After, is_taken, sampled}
-use Rattle.offsets.specs.declared.reading.Shows.TheVariants.{Register}
 use Rattle.pins.specs.declared.record.Pins.{Pins}
 use Rattle.pins.specs.Record.{bit, pins_of, word}
 use Rattle.pins.specs.Trace.{records_from, whole_records}
@@ -43,7 +42,7 @@ pub record Answers (part : Part) (p : Pins) (s : State) (answer : ℕ) : Type 0 
   pub hf : bit 21 answer ≡ (lines_of part false s).hf
   pub pae : bit 20 answer ≡ (lines_of part false s).pae
   pub paf : bit 19 answer ≡ (lines_of part false s).paf
-  pub register : p.oe ≡ false → s.reading.shows ≡ Register → word answer ≡ (shown_by part s).register
+  pub register : p.oe ≡ false → s.reading.shows ≡ None → word answer ≡ (shown_by part s).register
 
 -- the answer of a record in the room for answers: three bytes, the first of most weight
 unfoldable pub answer_at : ℕ → List ℕ → ℕ

@@ -1,10 +1,9 @@
 -- A sample outside reset keeps what holds between the model and the onlooker's notes.
-use Rattle.std.specs.Prelude.{ℕ, ◌≤◌, ◌<◌, Bool, true, false, cond, List, [], ◌∷◌, ◌++◌, ◌≡◌, refl, get_or, length, set, take}
+use Rattle.std.specs.Prelude.{ℕ, ◌≤◌, ◌<◌, Bool, true, false, cond, List, [], ◌∷◌, ◌++◌, ◌≡◌, refl, get_or, length, set, take, Option, None}
+use Rattle.chip.specs.declared.advance.Put.{Put}
 use Rattle.std.proofs.Math.Path.{sym}
 use Rattle.std.proofs.Common.{◌∙◌}
 use native.Mathlib.Omega.{arith}
-use Rattle.chip.specs.declared.advance.Store.{Store}
-use Rattle.chip.specs.declared.advance.Store.TheVariants.{Keep, Put}
 use Rattle.chip.specs.declared.state.State.{State}
 use Rattle.chip.specs.Advance.{running, stored}
 use Rattle.chip.specs.ResetLaws.{is_fwft, stays_fwft}
@@ -33,7 +32,7 @@ use Rattle.history.specs.Told.{Agrees, Came, Told}
 use Rattle.history.specs.Trace.{Moment, at, shown_by}
 use Rattle.history.specs.WordLaws.{delivered_after, holds_after, last_after, length_after, take_after}
 
-stored_by : (one : Bool) (place value : ℕ) (memory : List ℕ) → stored (cond one (Put place value) Keep) memory ≡ cond one (set memory place value) memory
+stored_by : (one : Bool) (place value : ℕ) (memory : List ℕ) → stored (cond one (Some (record { place = place; word = value })) None) memory ≡ cond one (set memory place value) memory
 stored_by true place value memory = refl
 stored_by false place value memory = refl
 
@@ -109,8 +108,8 @@ module _ (part : Part) (m : Moment) (t : TrueCounts) (g : Told part m t) (p : Pi
   register_after_lem true e = (word_delivered e).1
   register_after_lem false e = register_kept e
 
-  abbrev store : Store
-  store = cond accepted (Put place (word p.d)) Keep
+  abbrev store : Option Put
+  store = cond accepted (Some (record { place = place; word = word p.d })) None
 
   memory_after_lem : stored store m.memory ≡ cond accepted (set m.memory place (word p.d)) m.memory
   memory_after_lem = stored_by accepted place (word p.d) m.memory

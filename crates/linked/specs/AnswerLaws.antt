@@ -1,5 +1,5 @@
 -- Order 4: what a chain answers is what the onlookers at its two ends see after the sample: IR and PAF of the first part, the rest of the last.
-use Rattle.std.specs.Prelude.{ℕ, ◌-◌, ◌^◌, ◌<◌, Bool, true, false, not, cond, List, ◌≡◌, refl, eqb}
+use Rattle.std.specs.Prelude.{ℕ, ◌-◌, ◌^◌, ◌<◌, Bool, true, false, not, cond, List, ◌≡◌, refl, eqb, None}
 use Rattle.std.proofs.Common.{ap, ◌∙◌, arith}
 use Rattle.rows.specs.declared.row.Row.{Row}
 use Rattle.rows.specs.Step.{Moving, chain_answer, chain_refusal, chain_stepped, shown_by as lines_at, state_of, took, turned_away}
@@ -10,7 +10,6 @@ use Rattle.fifo.specs.declared.sample.Outcome.TheVariants.{Taken}
 use Rattle.fifo.specs.Sample.{is_taken}
 use Rattle.links.specs.declared.record.Links.{Links}
 use Rattle.links.specs.Wire.{ends_of}
-use Rattle.offsets.specs.declared.reading.Shows.TheVariants.{Register}
 use Rattle.pins.specs.Answer.{given}
 use Rattle.pins.specs.declared.record.Pins.{Pins}
 use Rattle.pins.specs.Laws.{laid}
@@ -30,7 +29,7 @@ pub record AnswersEnds (part : Part) (p : Pins) (row : Row) (answer : ℕ) : Typ
   pub driven : bit 18 answer ≡ not p.oe
   pub register : p.oe ≡ false → word answer ≡ (seen_at part row (row.count - 1)).register
 
-ends_by : (part : Part) (p : Pins) (row : Row) → let last = state_of row (row.count - 1) in widths part last ≡ true → last.reading.shows ≡ Register
+ends_by : (part : Part) (p : Pins) (row : Row) → let last = state_of row (row.count - 1) in widths part last ≡ true → last.reading.shows ≡ None
     → AnswersEnds part p row (chain_answer part p row)
 unfolding chain_answer ends_of lines_of shown_by
 ends_by part p row e shows =

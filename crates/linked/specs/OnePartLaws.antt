@@ -1,7 +1,7 @@
 -- One part in FWFT with no retransmit: of the words delivered all are taken but the one that is ready, if one is; and so the words accepted are those
 -- taken and then what the part holds.
 use Prim.Native.Nat.{ℕ}
-use Rattle.std.specs.Prelude.{Bool, true, false, cond, ◌&&◌, ◌||◌, ◌≡◌, refl}
+use Rattle.std.specs.Prelude.{Bool, true, false, cond, ◌&&◌, ◌||◌, ◌≡◌, refl, ℕ, None}
 use Rattle.std.proofs.Math.Bool.{not, and-false}
 use Rattle.std.proofs.Common.{true≢false, ◌∙◌, take-append-drop}
 use mathlib.Core.List.{List, [], ◌∷◌, ◌++◌, append_assoc, append-nil}
@@ -18,7 +18,6 @@ use Rattle.counts.specs.declared.part.Part.{Part}
 use Rattle.counts.specs.Both.{both}
 use Rattle.fifo.specs.Sample.{fetched_for}
 use Rattle.offsets.specs.declared.reading.Reading.{Reading}
-use Rattle.offsets.specs.declared.reading.Shows.TheVariants.{Register}
 use Rattle.offsets.specs.declared.registers.Next.{Next}
 use Rattle.offsets.specs.declared.registers.Offsets.{Offsets}
 use Rattle.offsets.specs.Reading.{ended, reading_after}
@@ -76,8 +75,8 @@ seen_stays : (rises after : Bool) (view : View) → view ≡ Seen → view_after
 seen_stays true after view e = rw e
 seen_stays false after view e = e
 
-register_stays : (p : Pins) (rises : Bool) (o : Offsets) (reading : Reading) → p.ld ≡ true → reading.shows ≡ Register
-    → (reading_after p rises o reading).shows ≡ Register
+register_stays : (p : Pins) (rises : Bool) (o : Offsets) (reading : Reading) → p.ld ≡ true → reading.shows ≡ None
+    → (reading_after p rises o reading).shows ≡ None
 unfolding reading_after
 register_stays p true o reading high e = rw high
 register_stays p false o reading high e = e

@@ -1,12 +1,11 @@
 -- Order 4: the memories of a chain stand one after the other in one list of words. What a sample of one part makes of its own words, and
 -- that it leaves all others.
-use Rattle.std.specs.Prelude.{ℕ, suc, ◌+◌, ◌*◌, ◌≤◌, ◌<◌, ◌&&◌, List, ◌++◌, ◌≡◌, refl, drop, length, take}
+use Rattle.std.specs.Prelude.{ℕ, suc, ◌+◌, ◌*◌, ◌≤◌, ◌<◌, ◌&&◌, List, ◌++◌, ◌≡◌, refl, drop, length, take, Option, Some, None}
+use Rattle.chip.specs.declared.advance.Put.{Put}
 use Rattle.std.proofs.Common.{sym, ◌∙◌, length-append, length-drop, take-append-drop, drop_at, drop-drop, drop-set-lt, get_or-take, length-take-le, mod-lt, mul-le-mul_right, suc-mul, arith}
 use Rattle.std.proofs.Math.Path.{ap}
 use Rattle.std.proofs.lemmas.List.{drop-append-le, take-append-le}
 use Rattle.std.proofs.Math.Seq.{take-set-lt}
-use Rattle.chip.specs.declared.advance.Store.{Store}
-use Rattle.chip.specs.declared.advance.Store.TheVariants.{Keep, Put}
 use Rattle.chip.specs.declared.state.State.{State}
 use Rattle.chip.specs.Advance.{advanced, store_of, stored}
 use Rattle.counts.specs.declared.part.Part.{Part}
@@ -45,20 +44,20 @@ below_kept place from many l r h fits =
     parts r ∙ sym (parts (drop place l)) ∙ ap (λ (m : List ℕ). take many (drop from m)) (take-append-drop place l)
 
 -- what is stored goes to a place of the part's own
-abbrev Below : ℕ → Store → Type 0
-Below depth Keep = Unit {0}
-Below depth (Put place value) = place < depth
+abbrev Below : ℕ → Option Put → Type 0
+Below depth None = Unit {0}
+Below depth (Some put) = put.place < depth
 
 store_below : (part : Part) (p : Pins) (s : State) → Below (depth_of part) (store_of part p s)
 unfolding store_of
 store_below part p s =
     either (Below (depth_of part)) (p.mrs && p.prs && accepts (depth_of part) p s.write)
-    (Put (place_of (depth_of part) s.write.count.0) (word p.d)) Keep (mod-lt s.write.count.0 (part_sized part).some) tt
+    (Some (record { place = place_of (depth_of part) s.write.count.0; word = word p.d })) None (mod-lt s.write.count.0 (part_sized part).some) tt
 
-stored_own : (depth : ℕ) (store : Store) (l : List ℕ) → Below depth store
+stored_own : (depth : ℕ) (store : Option Put) (l : List ℕ) → Below depth store
     → (take depth (stored store l) ≡ stored store (take depth l)) × (drop depth (stored store l) ≡ drop depth l)
-stored_own depth Keep l b = (refl, refl)
-stored_own depth (Put place value) l b = (take-set-lt depth l place value b, drop-set-lt depth l place value b)
+stored_own depth None l b = (refl, refl)
+stored_own depth (Some put) l b = (take-set-lt depth l put.place put.word b, drop-set-lt depth l put.place put.word b)
 
 -- a sample of one part on words of which only the first are its own
 pub record OwnOnly (part : Part) (p : Pins) (s : State) (l : List ℕ) : Type 0 where

@@ -1,9 +1,8 @@
 -- One part in FWFT: the words taken from it, what it holds, and how the words delivered fall into the two.
-use Rattle.std.specs.Prelude.{ℕ, true, cond, List, [], ◌∷◌, ◌++◌, ◌≡◌}
+use Rattle.std.specs.Prelude.{ℕ, true, cond, List, [], ◌∷◌, ◌++◌, ◌≡◌, None}
 use Rattle.chip.specs.State.{words_held}
 use Rattle.counts.specs.declared.part.Part.{Part}
 use Rattle.counts.specs.Part.{depth_of}
-use Rattle.offsets.specs.declared.reading.Shows.TheVariants.{Register}
 use Rattle.pins.specs.declared.record.Pins.{Pins}
 use Rattle.views.specs.declared.retransmit.Setup.TheVariants.{Over}
 use Rattle.views.specs.declared.retransmit.View.TheVariants.{Seen}
@@ -26,6 +25,6 @@ inside part m = untaken part m ++ words_from (depth_of part) m.memory m.state.re
 pub record Plain (part : Part) (m : Moment) (taken : List ℕ) : Type 0 where
   pub setup : m.state.read.setup ≡ Over
   pub view : m.state.write.view ≡ Seen
-  pub shows : m.state.reading.shows ≡ Register
+  pub shows : m.state.reading.shows ≡ None
   pub fwft : m.notes.fwft ≡ true
   pub split : m.notes.delivered ≡ taken ++ untaken part m

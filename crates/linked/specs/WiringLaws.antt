@@ -1,5 +1,5 @@
 -- Order 4: what neighbours have at their pins, the wiring table line by line; and the numbers that the parts give.
-use Rattle.std.specs.Prelude.{ℕ, zero, suc, ◌+◌, ◌-◌, ◌^◌, ◌<◌, Bool, true, false, ◌≡◌, refl, eqb}
+use Rattle.std.specs.Prelude.{ℕ, zero, suc, ◌+◌, ◌-◌, ◌^◌, ◌<◌, Bool, true, false, ◌≡◌, refl, eqb, Option, Some, None}
 use Rattle.std.proofs.Common.{ap, ◌∙◌, ltb-true, ne_eqb, mod-eq_of_lt, add-one, arith}
 use Rattle.rows.specs.declared.row.Row.{Row}
 use Rattle.rows.specs.Step.{shown_by, state_of, wired_to}
@@ -11,8 +11,6 @@ use Rattle.counts.specs.declared.part.Part.{Part}
 use Rattle.counts.specs.declared.part.Part.TheVariants.{Idt72V255LA, Idt72V265LA}
 use Rattle.links.specs.declared.record.Links.{Links}
 use Rattle.links.specs.Wire.{wired}
-use Rattle.offsets.specs.declared.reading.Shows.{Shows}
-use Rattle.offsets.specs.declared.reading.Shows.TheVariants.{Register, Offset}
 use Rattle.offsets.specs.Reading.{shown, shown_fits}
 use Rattle.pins.specs.declared.answer.Lines.{Lines}
 use Rattle.pins.specs.declared.record.Pins.{Pins}
@@ -56,10 +54,10 @@ handed part x row k =
     record { wclk = simp inner; wen = simp (inner, before); d = simp (inner, before); unsettled = simp inner }
 
 -- what a part of passed widths shows on Q has 18 bits, an offset too
-shown_narrow : (part : Part) (shows : Shows) (output : ℕ) → shown_fits part shows ≡ true → is_word output ≡ true → shown shows output < 2 ^ 18
-shown_narrow part Register output f e = ltb-true output (2 ^ 18) e
-shown_narrow Idt72V255LA (Offset offset) output f e = let l = ltb-true offset (2 ^ 13) f in omega arith
-shown_narrow Idt72V265LA (Offset offset) output f e = let l = ltb-true offset (2 ^ 14) f in omega arith
+shown_narrow : (part : Part) (shows : Option ℕ) (output : ℕ) → shown_fits part shows ≡ true → is_word output ≡ true → shown shows output < 2 ^ 18
+shown_narrow part None output f e = ltb-true output (2 ^ 18) e
+shown_narrow Idt72V255LA (Some offset) output f e = let l = ltb-true offset (2 ^ 13) f in omega arith
+shown_narrow Idt72V265LA (Some offset) output f e = let l = ltb-true offset (2 ^ 14) f in omega arith
 
 pub lines_narrow : (part : Part) (s : State) → widths part s ≡ true → (lines_of part false s).q < 2 ^ 18
 unfolding lines_of
@@ -72,8 +70,8 @@ wired_narrow part x row narrow zero h = narrow
 wired_narrow part x row narrow (suc k) h = rw (handed part x row k).d (lines_narrow part (state_of row k) (h k (omega arith)))
 
 -- Q of a part that shows no offset is its output register
-pub register_shown : (part : Part) (oe : Bool) (s : State) → widths part s ≡ true → s.reading.shows ≡ Register
+pub register_shown : (part : Part) (oe : Bool) (s : State) → widths part s ≡ true → s.reading.shows ≡ None
     → word (lines_of part oe s).q ≡ s.read.output
 unfolding lines_of
 register_shown part oe s e shows =
-    ap (λ (what : Shows). word (shown what s.read.output)) shows ∙ mod-eq_of_lt (ltb-true s.read.output (2 ^ 18) (apart part s e).output)
+    ap (λ (what : Option ℕ). word (shown what s.read.output)) shows ∙ mod-eq_of_lt (ltb-true s.read.output (2 ^ 18) (apart part s e).output)

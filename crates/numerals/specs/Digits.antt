@@ -1,7 +1,7 @@
 -- The state's bytes, its levels and enums: each as a digit.
-use Rattle.std.specs.Prelude.{ℕ, ◌%◌, Bool, true, false, cond, eqb}
-use Rattle.offsets.specs.declared.reading.Shows.{Shows}
-use Rattle.offsets.specs.declared.reading.Shows.TheVariants.{Register, Offset}
+use Rattle.std.specs.Prelude.{ℕ, ◌%◌, Bool, true, false, cond, eqb, Option, Some, None}
+use Rattle.counts.specs.declared.round.WriteCount.{WriteCount}
+use Rattle.counts.specs.declared.round.ReadCount.{ReadCount}
 use Rattle.offsets.specs.declared.registers.Method.{Method}
 use Rattle.offsets.specs.declared.registers.Method.TheVariants.{Parallel, Serial}
 use Rattle.offsets.specs.declared.registers.Next.{Next}
@@ -12,10 +12,6 @@ use Rattle.views.specs.declared.retransmit.Setup.{Setup}
 use Rattle.views.specs.declared.retransmit.Setup.TheVariants.{Over, OneMore, TwoMore}
 use Rattle.views.specs.declared.retransmit.View.{View}
 use Rattle.views.specs.declared.retransmit.View.TheVariants.{Unseen, Taken, Seen}
-use Rattle.views.specs.declared.stages.ReadRise.{ReadRise}
-use Rattle.views.specs.declared.stages.ReadRise.TheVariants as readRise
-use Rattle.views.specs.declared.stages.WriteRise.{WriteRise}
-use Rattle.views.specs.declared.stages.WriteRise.TheVariants as writeRise
 
 abbrev pub digit_of : Bool → ℕ
 digit_of level = cond level 1 0
@@ -58,27 +54,27 @@ abbrev pub next_of : Bool → Next
 next_of second = cond second M N
 
 -- the number beside the digit or 0, and both put together again
-abbrev pub read_before : ReadRise → ℕ
-read_before readRise.NoneSince = 0
-read_before (readRise.Before count) = count.0
+abbrev pub read_before : Option ReadCount → ℕ
+read_before None = 0
+read_before (Some count) = count.0
 
-abbrev pub read_rise_of : Bool → ℕ → ReadRise
-read_rise_of rose count = cond rose (readRise.Before (record { 0 = count })) readRise.NoneSince
+abbrev pub read_rise_of : Bool → ℕ → Option ReadCount
+read_rise_of rose count = cond rose (Some (record { 0 = count })) None
 
-abbrev pub write_before : WriteRise → ℕ
-write_before writeRise.NoneSince = 0
-write_before (writeRise.Before count) = count.0
+abbrev pub write_before : Option WriteCount → ℕ
+write_before None = 0
+write_before (Some count) = count.0
 
-abbrev pub write_rise_of : Bool → ℕ → WriteRise
-write_rise_of rose count = cond rose (writeRise.Before (record { 0 = count })) writeRise.NoneSince
+abbrev pub write_rise_of : Bool → ℕ → Option WriteCount
+write_rise_of rose count = cond rose (Some (record { 0 = count })) None
 
-abbrev pub shows_offset : Shows → Bool
-shows_offset Register = false
-shows_offset (Offset offset) = true
+abbrev pub shows_offset : Option ℕ → Bool
+shows_offset None = false
+shows_offset (Some offset) = true
 
-abbrev pub shown_offset : Shows → ℕ
-shown_offset Register = 0
-shown_offset (Offset offset) = offset
+abbrev pub shown_offset : Option ℕ → ℕ
+shown_offset None = 0
+shown_offset (Some offset) = offset
 
-abbrev pub shows_of : Bool → ℕ → Shows
-shows_of offset shown = cond offset (Offset shown) Register
+abbrev pub shows_of : Bool → ℕ → Option ℕ
+shows_of offset shown = cond offset (Some shown) None

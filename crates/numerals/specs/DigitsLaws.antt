@@ -1,8 +1,8 @@
 -- The state's bytes, its digits: what was written as a digit is read back, and the other way round.
-use Rattle.std.specs.Prelude.{ℕ, zero, suc, ◌<◌, Bool, true, false, ◌||◌, ◌≡◌, refl, eqb}
+use Rattle.std.specs.Prelude.{ℕ, zero, suc, ◌<◌, Bool, true, false, ◌||◌, ◌≡◌, refl, eqb, Option, Some, None, is_some}
+use Rattle.counts.specs.declared.round.WriteCount.{WriteCount}
+use Rattle.counts.specs.declared.round.ReadCount.{ReadCount}
 use Rattle.std.proofs.Common.{sym, eqb-true, arith}
-use Rattle.offsets.specs.declared.reading.Shows.{Shows}
-use Rattle.offsets.specs.declared.reading.Shows.TheVariants.{Register, Offset}
 use Rattle.offsets.specs.declared.registers.Method.{Method}
 use Rattle.offsets.specs.declared.registers.Method.TheVariants.{Parallel, Serial}
 use Rattle.offsets.specs.declared.registers.Next.{Next}
@@ -14,11 +14,6 @@ use Rattle.views.specs.declared.retransmit.Setup.{Setup}
 use Rattle.views.specs.declared.retransmit.Setup.TheVariants.{Over, OneMore, TwoMore}
 use Rattle.views.specs.declared.retransmit.View.{View}
 use Rattle.views.specs.declared.retransmit.View.TheVariants.{Unseen, Taken, Seen}
-use Rattle.views.specs.declared.stages.ReadRise.{ReadRise}
-use Rattle.views.specs.declared.stages.ReadRise.TheVariants as readRise
-use Rattle.views.specs.declared.stages.WriteRise.{WriteRise}
-use Rattle.views.specs.declared.stages.WriteRise.TheVariants as writeRise
-use Rattle.views.specs.Stages.{read_rose, write_rose}
 use Rattle.numerals.specs.Digits.{digit_of, is_m, is_serial, level_of, mode_digit, mode_of, next_of, read_before, read_rise_of, setup_digit, setup_of, shown_offset, shows_of, shows_offset, view_digit, view_of, write_before, write_rise_of}
 
 -- read back as it was written
@@ -49,17 +44,17 @@ pub next_again : (next : Next) → next_of (is_m next) ≡ next
 next_again N = refl
 next_again M = refl
 
-pub read_rise_again : (latest : ReadRise) → read_rise_of (read_rose latest) (read_before latest) ≡ latest
-read_rise_again readRise.NoneSince = refl
-read_rise_again (readRise.Before count) = refl
+pub read_rise_again : (latest : Option ReadCount) → read_rise_of (is_some latest) (read_before latest) ≡ latest
+read_rise_again None = refl
+read_rise_again (Some count) = refl
 
-pub write_rise_again : (latest : WriteRise) → write_rise_of (write_rose latest) (write_before latest) ≡ latest
-write_rise_again writeRise.NoneSince = refl
-write_rise_again (writeRise.Before count) = refl
+pub write_rise_again : (latest : Option WriteCount) → write_rise_of (is_some latest) (write_before latest) ≡ latest
+write_rise_again None = refl
+write_rise_again (Some count) = refl
 
-pub shows_again : (shows : Shows) → shows_of (shows_offset shows) (shown_offset shows) ≡ shows
-shows_again Register = refl
-shows_again (Offset offset) = refl
+pub shows_again : (shows : Option ℕ) → shows_of (shows_offset shows) (shown_offset shows) ≡ shows
+shows_again None = refl
+shows_again (Some offset) = refl
 
 -- within their limits, and blank where they must be
 pub level_small : (level : Bool) → digit_of level < 2
@@ -81,17 +76,17 @@ mode_small Standard = omega arith
 mode_small (Fwft true) = omega arith
 mode_small (Fwft false) = omega arith
 
-pub read_blank : (latest : ReadRise) → (read_rose latest || eqb (read_before latest) 0) ≡ true
-read_blank readRise.NoneSince = refl
-read_blank (readRise.Before count) = refl
+pub read_blank : (latest : Option ReadCount) → (is_some latest || eqb (read_before latest) 0) ≡ true
+read_blank None = refl
+read_blank (Some count) = refl
 
-pub write_blank : (latest : WriteRise) → (write_rose latest || eqb (write_before latest) 0) ≡ true
-write_blank writeRise.NoneSince = refl
-write_blank (writeRise.Before count) = refl
+pub write_blank : (latest : Option WriteCount) → (is_some latest || eqb (write_before latest) 0) ≡ true
+write_blank None = refl
+write_blank (Some count) = refl
 
-pub shows_blank : (shows : Shows) → (shows_offset shows || eqb (shown_offset shows) 0) ≡ true
-shows_blank Register = refl
-shows_blank (Offset offset) = refl
+pub shows_blank : (shows : Option ℕ) → (shows_offset shows || eqb (shown_offset shows) 0) ≡ true
+shows_blank None = refl
+shows_blank (Some offset) = refl
 
 -- written back as it was read, where the digit is within its limit
 pub digit_back : (digit : ℕ) → digit < 2 → digit_of (level_of digit) ≡ digit
@@ -126,7 +121,7 @@ next_back true = refl
 next_back false = refl
 
 module _ (count : ℕ) where
-  pub read_rose_back : (rose : Bool) → read_rose (read_rise_of rose count) ≡ rose
+  pub read_rose_back : (rose : Bool) → is_some (read_rise_of rose count) ≡ rose
   read_rose_back true = refl
   read_rose_back false = refl
 
@@ -134,7 +129,7 @@ module _ (count : ℕ) where
   read_before_back true e = refl
   read_before_back false e = sym (eqb-true count 0 e)
 
-  pub write_rose_back : (rose : Bool) → write_rose (write_rise_of rose count) ≡ rose
+  pub write_rose_back : (rose : Bool) → is_some (write_rise_of rose count) ≡ rose
   write_rose_back true = refl
   write_rose_back false = refl
 

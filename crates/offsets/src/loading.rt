@@ -1,7 +1,7 @@
 // Offsets: parallel and serial loading, at a rise of WCLK.
-ghost use Rattle.std.specs.Prelude.{◌+◌, cond, true, ◌≡◌};
+ghost use Rattle.std.specs.Prelude.{◌+◌, true, ◌≡◌};
 ghost use Rattle.offsets.specs.Loading.{load_parallel, load_serial, loaded_by, offsets_after, pushed};
-ghost use Rattle.offsets.specs.Registers.{fit, is_n, other};
+ghost use Rattle.offsets.specs.Registers.{fit};
 
 use super::registers::{Method, Next, Offsets};
 use counts::part::Part;
@@ -44,19 +44,17 @@ fn load_parallel(part: Part, d: u32, o: Offsets) -> Offsets
     ensures { result ≡ load_parallel part d o }
 {
     let offset = counts::part::low_offset(part, d);
-    let next = o.next;
-    let to_n = is_n(next);
-    let n = pick(to_n, offset, o.n);
-    let m = pick(to_n, o.m, offset);
-    let method = o.method;
-    let after = other_of(next);
-    Offsets {
-        n: n,
-        m: m,
-        method: method,
-        next: after,
-        serial: o.serial,
-        count: o.count,
+    match o.next {
+        Next::N => Offsets {
+            n: offset,
+            next: Next::M,
+            ..o
+        },
+        Next::M => Offsets {
+            m: offset,
+            next: Next::N,
+            ..o
+        },
     }
 }
 
@@ -66,30 +64,18 @@ fn load_serial(part: Part, bit: bool, o: Offsets) -> Offsets
     ensures { result ≡ load_serial part bit o }
 {
     let serial = push(bit, part, o);
-    let method = o.method;
-    let next = o.next;
     let count = o.count + 1;
     let last = count == counts::part::serial_bits(part);
     if last {
-        let n = counts::part::low_offset(part, serial);
-        let m = counts::part::low_offset(part, counts::part::above_offset(part, serial));
         Offsets {
-            n: n,
-            m: m,
-            method: method,
-            next: next,
+            n: counts::part::low_offset(part, serial),
+            m: counts::part::low_offset(part, counts::part::above_offset(part, serial)),
             serial: 0,
             count: 0,
+            ..o
         }
     } else {
-        Offsets {
-            n: o.n,
-            m: o.m,
-            method: method,
-            next: next,
-            serial: serial,
-            count: count,
-        }
+        Offsets { serial, count, ..o }
     }
 }
 
@@ -103,28 +89,4 @@ fn push(bit: bool, part: Part, o: Offsets) -> u32
     } else {
         o.serial
     }
-}
-
-fn is_n(next: Next) -> bool
-    ensures { result ≡ is_n next }
-{
-    match next {
-        Next::N => true,
-        Next::M => false,
-    }
-}
-
-fn other_of(next: Next) -> Next
-    ensures { result ≡ other next }
-{
-    match next {
-        Next::N => Next::M,
-        Next::M => Next::N,
-    }
-}
-
-fn pick(first: bool, a: u16, b: u16) -> u16
-    ensures { result ≡ cond first a b }
-{
-    if first { a } else { b }
 }

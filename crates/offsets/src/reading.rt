@@ -6,17 +6,11 @@ use super::registers::{Next, Offsets};
 use counts::part::Part;
 use pins::record::Pins;
 
-// What Q shows: the output register, or an offset as it stood when it was read.
-#[derive(Clone, Copy)]
-pub enum Shows {
-    Register,
-    Offset(u16),
-}
-
-#[derive(Clone, Copy)]
+// `shows` is the offset that Q shows, as it stood when it was read; there is none where Q shows the output register.
+#[derive(Clone, Copy, Debug, PartialEq, Eq)]
 pub struct Reading {
     pub next: Next,
-    pub shows: Shows,
+    pub shows: Option<u16>,
 }
 
 pub fn end_showing(next: Next) -> Reading
@@ -24,7 +18,7 @@ pub fn end_showing(next: Next) -> Reading
 {
     Reading {
         next: next,
-        shows: Shows::Register,
+        shows: None,
     }
 }
 
@@ -46,22 +40,16 @@ pub fn read_offset(p: Pins, rises: bool, o: Offsets, reading: Reading) -> Readin
     }
 }
 
-pub fn show(shows: Shows, output: u32) -> u32
+pub fn show(shows: Option<u16>, output: u32) -> u32
     ensures { result ≡ shown shows output }
 {
-    match shows {
-        Shows::Register => output,
-        Shows::Offset(offset) => offset as u32,
-    }
+    shows.map_or(output, u32::from)
 }
 
-pub fn shown_fits(part: Part, shows: Shows) -> bool
+pub fn shown_fits(part: Part, shows: Option<u16>) -> bool
     ensures { result ≡ shown_fits part shows }
 {
-    match shows {
-        Shows::Register => true,
-        Shows::Offset(offset) => counts::part::is_offset(part, offset),
-    }
+    shows.is_none_or(|offset| counts::part::is_offset(part, offset))
 }
 
 #[tactic(auto, unfolding(crate::specs::Reading::read_next))]
@@ -71,11 +59,11 @@ fn show_next(next: Next, o: Offsets) -> Reading
     match next {
         Next::N => Reading {
             next: Next::M,
-            shows: Shows::Offset(o.n),
+            shows: Some(o.n),
         },
         Next::M => Reading {
             next: Next::N,
-            shows: Shows::Offset(o.m),
+            shows: Some(o.m),
         },
     }
 }

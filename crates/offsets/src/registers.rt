@@ -5,14 +5,14 @@ ghost use Rattle.std.specs.Prelude.{◌^◌, ltb, ◌≡◌};
 
 use counts::part::Part;
 
-#[derive(Clone, Copy)]
+#[derive(Clone, Copy, Debug, PartialEq, Eq)]
 pub enum Method {
     Parallel,
     Serial,
 }
 
 // Which register is next in a sequence.
-#[derive(Clone, Copy)]
+#[derive(Clone, Copy, Debug, PartialEq, Eq)]
 pub enum Next {
     N,
     M,
@@ -20,7 +20,7 @@ pub enum Next {
 
 // `next` is the register that a parallel load goes to. `serial` holds the bits loaded so far, the first in the lowest
 // place, and `count` how many they are. The widest field stands first: padding is copied with every sample.
-#[derive(Clone, Copy)]
+#[derive(Clone, Copy, Debug, PartialEq, Eq)]
 pub struct Offsets {
     pub serial: u32,
     pub n: u16,
@@ -70,12 +70,7 @@ fn method_of(ld: bool) -> Method
 fn serial_fits(part: Part, serial: u32, count: u8) -> bool
     ensures { result ≡ serial_fits (serial_bits part) serial count }
 {
-    let below = count < counts::part::serial_bits(part);
-    if below {
-        fits_count(serial, count)
-    } else {
-        false
-    }
+    (count < counts::part::serial_bits(part)) && fits_count(serial, count)
 }
 
 fn fits_count(serial: u32, count: u8) -> bool

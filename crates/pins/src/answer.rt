@@ -3,7 +3,7 @@ ghost use Rattle.pins.specs.Answer.{given, packed};
 ghost use Rattle.std.specs.Prelude.{◌<◌, ◌^◌, ◌≤◌, cond, ◌≡◌};
 
 // The levels of the five flags, `ff` for FF/IR and `ef` for EF/OR; whether Q is driven, and the word that it then gives.
-#[derive(Clone, Copy)]
+#[derive(Clone, Copy, Debug, PartialEq, Eq)]
 pub struct Lines {
     pub ff: bool,
     pub ef: bool,

@@ -3,14 +3,14 @@ ghost use Rattle.pins.specs.Record.{is_word, pins_of, unsettled_in, word};
 ghost use Rattle.std.specs.Prelude.{◌≡◌};
 
 // Whether the skew time was met, should that side's clock rise in this sample.
-#[derive(Clone, Copy)]
+#[derive(Clone, Copy, Debug, PartialEq, Eq)]
 pub struct Skew {
     pub write: bool,
     pub read: bool,
 }
 
 // HIGH is true. `fwft` is the pin FWFT/SI. `unsettled` is no pin: it marks a D that was still moving.
-#[derive(Clone, Copy)]
+#[derive(Clone, Copy, Debug, PartialEq, Eq)]
 pub struct Pins {
     pub mrs: bool,
     pub prs: bool,

@@ -1,5 +1,5 @@
 -- Bench figures: the ten lines of the listing, and both sides of the limits of HF and PAE. What is turned away: 3, judged once.
-use Rattle.std.specs.Prelude.{ℕ, ◌+◌, ◌*◌, ◌^◌, true, false, List, [], ◌∷◌, ◌++◌, ◌≡◌, refl, replicate}
+use Rattle.std.specs.Prelude.{ℕ, ◌+◌, ◌*◌, ◌^◌, true, false, List, [], ◌∷◌, ◌++◌, ◌≡◌, refl, replicate, Some}
 use Rattle.chip.specs.declared.state.State.{State}
 use Rattle.chip.specs.Advance.{advanced, running, state_after, store_of}
 use Rattle.chip.specs.Answer.{answer_of, lines_of}
@@ -17,7 +17,6 @@ use Rattle.sides.specs.Clocks.{read_rises, write_rises}
 use Rattle.sides.specs.Read.{delivers, read_after, read_count_after, reads, ready, retransmits, second_after_read, sees_word}
 use Rattle.sides.specs.Write.{accepts, full, second_after_write, takes_after, write_after, write_count_after}
 use Rattle.views.specs.declared.retransmit.View.TheVariants.{Seen}
-use Rattle.views.specs.declared.stages.ReadRise.TheVariants as readRise
 use Rattle.views.specs.Flags.{hf_low, pae_low}
 use Rattle.notes.specs.Fold.{begun, folded, started}
 use Rattle.runs.specs.Run.{Ended, run_of, worked}
@@ -75,7 +74,7 @@ odd = record {
     wrapped = false;
     first = record { 0 = 0 };
     second = record { 0 = 0 };
-    latest = readRise.Before (record { 0 = 1 });
+    latest = Some (record { 0 = 1 });
     view = Seen;
     paf = true;
   };

@@ -1,5 +1,5 @@
 -- The two sides, whatever an allowed sample does to them, go on holding the true counts.
-use Rattle.std.specs.Prelude.{ℕ, ◌+◌, ◌≤◌, ◌<◌, Bool, true, false, not, cond, ◌&&◌, ◌||◌, ◌≡◌}
+use Rattle.std.specs.Prelude.{ℕ, ◌+◌, ◌≤◌, ◌<◌, Bool, true, false, not, cond, ◌&&◌, ◌||◌, ◌≡◌, is_some}
 use Rattle.std.proofs.Math.Bool.{and-false}
 use Rattle.std.proofs.Common.{arith}
 use Rattle.counts.specs.declared.round.ReadCount.{ReadCount}
@@ -19,7 +19,6 @@ use Rattle.sides.specs.Tracks.{Allowed, Tracks, next_true, true_after}
 use Rattle.sides.specs.Write.{accepts, full, second_after_write, takes_after, write_after, write_count_after}
 use Rattle.views.specs.OrderLaws.{ordered_read, ordered_write, setting_after, takes_written}
 use Rattle.views.specs.Retransmit.{just_begun, looked, setup_after, view_after}
-use Rattle.views.specs.Stages.{read_rose, write_rose}
 use Rattle.views.specs.TrueCounts.{MayMove, Ordered, Setting, TakesRead, TakesWritten, TrueCounts, When, across, after_write}
 
 pub grows : (one : Bool) (count : ℕ) → count ≤ cond one (count + 1) count
@@ -32,14 +31,14 @@ since_now false now before = tt
 
 module _ (depth : ℕ) (z : Sized depth) (w : WriteSide) (r : ReadSide) (t : TrueCounts) (g : Tracks depth w r t) (p : Pins) (a : Allowed depth p w r t) where
   abbrev taken_now : ℕ
-  taken_now = across p.skew.read (write_rose r.latest) t.written t.written_before
+  taken_now = across p.skew.read (is_some r.latest) t.written t.written_before
 
   abbrev after_writing : TrueCounts
-  after_writing = after_write (write_rises p w) (accepts depth p w) (across p.skew.write (read_rose w.latest) t.read t.read_before) t
+  after_writing = after_write (write_rises p w) (accepts depth p w) (across p.skew.write (is_some w.latest) t.read t.read_before) t
 
   taken_after_lem : TakesWritten after_writing taken_now
   taken_after_lem =
-      let h = takes_written depth w.view (just_begun r.setup) (read_rose w.latest) t p.skew.read (write_rose r.latest) g.ordered in
+      let h = takes_written depth w.view (just_begun r.setup) (is_some w.latest) t p.skew.read (is_some r.latest) g.ordered in
       let more = grows (accepts depth p w) t.written in
       omega arith
 
@@ -51,13 +50,13 @@ module _ (depth : ℕ) (z : Sized depth) (w : WriteSide) (r : ReadSide) (t : Tru
   few_after e = rw (none_accepted e) (a.few e)
 
   -- what the stages, the flags and the deliveries of this sample tell of the true counts: shown in `tracks_on`, which fails alone where one does not hold
-  module _ (takes : TakesRead w.view (just_begun r.setup) (takes_after p r w) t (across p.skew.write (read_rose w.latest) t.read t.read_before))
+  module _ (takes : TakesRead w.view (just_begun r.setup) (takes_after p r w) t (across p.skew.write (is_some w.latest) t.read t.read_before))
       (room : full depth w ≡ false → t.written < t.write_second + depth) (left : delivers p r ≡ true → t.read < t.read_second) where
     ordered_between : Ordered depth (cond (write_rises p w) (looked (takes_after p r w) w.view) w.view) (just_begun r.setup)
-        (write_rises p w || write_rose r.latest) (not (write_rises p w) && read_rose w.latest) after_writing
+        (write_rises p w || is_some r.latest) (not (write_rises p w) && is_some w.latest) after_writing
     unfolding accepts
     ordered_between =
-        ordered_write depth (write_rose r.latest) (read_rose w.latest) t (write_rises p w) w.view (just_begun r.setup) (takes_after p r w)
+        ordered_write depth (is_some r.latest) (is_some w.latest) t (write_rises p w) w.view (just_begun r.setup) (takes_after p r w)
         (accepts depth p w) _ g.ordered takes (may_accept depth t (write_rises p w) p.ld p.wen (full depth w) w.view a.seen room)
 
     moves : MayMove (read_rises p r) p.rt (next_true (retransmits p r) (delivers p r) t.read) depth after_writing
@@ -67,13 +66,13 @@ module _ (depth : ℕ) (z : Sized depth) (w : WriteSide) (r : ReadSide) (t : Tru
 
     ordered_after : Ordered depth (view_after (retransmits p r) (write_rises p w) (takes_after p r w) w.view)
         (just_begun (setup_after (read_rises p r) p.rt r.setup))
-        (cond (read_rises p r) (write_rises p w) (write_rises p w || write_rose r.latest))
-        (read_rises p r || not (write_rises p w) && read_rose w.latest) (true_after depth p w r t)
+        (cond (read_rises p r) (write_rises p w) (write_rises p w || is_some r.latest))
+        (read_rises p r || not (write_rises p w) && is_some w.latest) (true_after depth p w r t)
     unfolding retransmits true_after
     ordered_after =
         ordered_read depth _ _ after_writing (read_rises p r) p.rt _ r.setup (write_rises p w)
         (next_true (retransmits p r) (delivers p r) t.read) taken_now t.written ordered_between taken_after_lem
-        (takes_written depth w.view (just_begun r.setup) (read_rose w.latest) t p.skew.read (write_rose r.latest) g.ordered).high
+        (takes_written depth w.view (just_begun r.setup) (is_some w.latest) t p.skew.read (is_some r.latest) g.ordered).high
         (grows (accepts depth p w) t.written) (since_now (write_rises p w) t.written t.written_before) moves
 
   setting_now : let u = true_after depth p w r t in Setting (setup_after (read_rises p r) p.rt r.setup) u.one_ago u.two_ago u.three_ago
@@ -99,7 +98,7 @@ module _ (depth : ℕ) (z : Sized depth) (w : WriteSide) (r : ReadSide) (t : Tru
         g.written.count g.latest_write;
     ordered =
         rw (since_write (read_rises p r) (write_rises p w) w.count r.latest, since_read (write_rises p w) (read_rises p r) r.count w.latest)
-        (ordered_after (takes_by depth (write_rose r.latest) t w.view r.setup w.latest p.skew.write g.ordered) (room_told depth z w r t g)
+        (ordered_after (takes_by depth (is_some r.latest) t w.view r.setup w.latest p.skew.write g.ordered) (room_told depth z w r t g)
         (word_told depth z w r t g (read_rises p r && p.rt) (read_rises p r && p.ld && not p.ren && p.rt)));
     setting = setting_now;
     owes =

@@ -1,12 +1,12 @@
 -- A side whose own clock does not rise: what can still change is given.
-use Rattle.std.specs.Prelude.{Bool}
+use Rattle.std.specs.Prelude.{Bool, Option}
+use Rattle.counts.specs.declared.round.WriteCount.{WriteCount}
+use Rattle.counts.specs.declared.round.ReadCount.{ReadCount}
 use Rattle.sides.specs.declared.read.ReadSide.{ReadSide}
 use Rattle.sides.specs.declared.write.WriteSide.{WriteSide}
 use Rattle.views.specs.declared.retransmit.View.{View}
-use Rattle.views.specs.declared.stages.ReadRise.{ReadRise}
-use Rattle.views.specs.declared.stages.WriteRise.{WriteRise}
 
-abbrev pub held_write : Bool → ReadRise → View → WriteSide → WriteSide
+abbrev pub held_write : Bool → Option ReadCount → View → WriteSide → WriteSide
 held_write level latest view w = record {
   level = level;
   count = w.count;
@@ -18,7 +18,7 @@ held_write level latest view w = record {
   paf = w.paf;
 }
 
-abbrev pub held_read : Bool → WriteRise → ReadSide → ReadSide
+abbrev pub held_read : Bool → Option WriteCount → ReadSide → ReadSide
 held_read level latest r = record {
   level = level;
   count = r.count;

@@ -14,7 +14,7 @@ use Rattle.views.specs.declared.tables.Table.{Table}
 use Rattle.views.specs.declared.tables.Table.TheVariants.{One, Two}
 use Rattle.views.specs.Flags.{pae_low}
 use Rattle.views.specs.Retransmit.{is_over, setup_after}
-use Rattle.views.specs.Stages.{latest_write, taken_write}
+use Rattle.views.specs.Stages.{rise_after, count_taken}
 
 -- which of the sheet's flag tables
 abbrev pub table_of : Mode → Table
@@ -69,9 +69,9 @@ unfoldable pub read_after : ℕ → Pins → ℕ → WriteSide → ReadSide → 
 read_after n p fetched w r = record {
   level = p.rclk;
   count = read_count_after p r;
-  first = cond (read_rises p r) (taken_write p.skew.read r.latest w.count) r.first;
+  first = cond (read_rises p r) (count_taken p.skew.read r.latest w.count) r.first;
   second = second_after_read p r;
-  latest = latest_write (read_rises p r) (write_rises p w) w.count r.latest;
+  latest = rise_after (read_rises p r) (write_rises p w) w.count r.latest;
   setup = setup_after (read_rises p r) p.rt r.setup;
   pae = cond (read_rises p r && is_over (setup_after (read_rises p r) p.rt r.setup))
       (not (pae_low n (ahead (second_after_read p r) (read_count_after p r)))) r.pae;

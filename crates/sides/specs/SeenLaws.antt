@@ -1,5 +1,5 @@
 -- Retransmit, as the write side sees it: at the second rise of WCLK counted from the first that takes a read count from after it.
-use Rattle.std.specs.Prelude.{ℕ, suc, Bool, true, false, ◌≡◌, refl}
+use Rattle.std.specs.Prelude.{ℕ, suc, Bool, true, false, ◌≡◌, refl, Option, Some, None}
 use Rattle.std.proofs.Math.Bool.{and-false}
 use Rattle.counts.specs.declared.round.ReadCount.{ReadCount}
 use Rattle.pins.specs.declared.record.Pins.{Pins}
@@ -11,24 +11,22 @@ use Rattle.sides.specs.SetupLaws.{Following, begun_before, just_begun_lem}
 use Rattle.sides.specs.Write.{takes_after, write_after}
 use Rattle.views.specs.declared.retransmit.View.{View}
 use Rattle.views.specs.declared.retransmit.View.TheVariants.{Unseen, Taken, Seen}
-use Rattle.views.specs.declared.stages.ReadRise.{ReadRise}
-use Rattle.views.specs.declared.stages.ReadRise.TheVariants.{NoneSince, Before}
 use Rattle.views.specs.Stages.{looks_past}
 
 -- a rise of WCLK and no retransmit in its sample
 pub record Looked (p : Pins) (r : ReadSide) (w : WriteSide) (after : View) : Type 0 where
   pub met : w.view ≡ Unseen → p.skew.write ≡ true → after ≡ Taken
-  pub alone : w.view ≡ Unseen → w.latest ≡ NoneSince → after ≡ Taken
+  pub alone : w.view ≡ Unseen → w.latest ≡ None → after ≡ Taken
   -- a rise looked past that came after the retransmitting one
   pub later : (pae : Bool) (k : ℕ) → Following pae (suc k) r → w.view ≡ Unseen → after ≡ Taken
   -- the retransmitting rise itself looked past
-  pub past : (pae : Bool) (before : ReadCount) → Following pae 0 r → w.view ≡ Unseen → p.skew.write ≡ false → w.latest ≡ Before before → after ≡ Unseen
+  pub past : (pae : Bool) (before : ReadCount) → Following pae 0 r → w.view ≡ Unseen → p.skew.write ≡ false → w.latest ≡ Some before → after ≡ Unseen
   pub second : w.view ≡ Taken → after ≡ Seen
   pub seen : w.view ≡ Seen → after ≡ Seen
 
-met_past : (latest : ReadRise) → looks_past true latest ≡ false
-met_past NoneSince = refl
-met_past (Before count) = refl
+met_past : (latest : Option ReadCount) → looks_past true latest ≡ false
+met_past None = refl
+met_past (Some count) = refl
 
 module _ (depth m : ℕ) (p : Pins) (r : ReadSide) (w : WriteSide) where
   pub looked_at : write_rises p w ≡ true → retransmits p r ≡ false → Looked p r w (write_after depth m p r w).view

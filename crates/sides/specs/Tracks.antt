@@ -1,5 +1,7 @@
 -- What the two sides hold of the true counts, each known to them only round its width.
-use Rattle.std.specs.Prelude.{ℕ, ◌+◌, ◌%◌, ◌≤◌, ◌<◌, Bool, true, false, not, cond, ◌&&◌, ◌≡◌}
+use Rattle.std.specs.Prelude.{ℕ, ◌+◌, ◌%◌, ◌≤◌, ◌<◌, Bool, true, false, not, cond, ◌&&◌, ◌≡◌, Option, Some, None, is_some}
+use Rattle.counts.specs.declared.round.WriteCount.{WriteCount}
+use Rattle.counts.specs.declared.round.ReadCount.{ReadCount}
 use Rattle.counts.specs.Round.{width}
 use Rattle.pins.specs.declared.record.Pins.{Pins}
 use Rattle.sides.specs.declared.read.Mode.{Mode}
@@ -10,21 +12,16 @@ use Rattle.sides.specs.Clocks.{read_rises, write_rises}
 use Rattle.sides.specs.Read.{delivers, retransmits}
 use Rattle.sides.specs.SinceReset.{Tallies}
 use Rattle.sides.specs.Write.{accepts}
-use Rattle.views.specs.declared.stages.ReadRise.{ReadRise}
-use Rattle.views.specs.declared.stages.ReadRise.TheVariants as readRise
-use Rattle.views.specs.declared.stages.WriteRise.{WriteRise}
-use Rattle.views.specs.declared.stages.WriteRise.TheVariants as writeRise
 use Rattle.views.specs.Retransmit.{is_seen, just_begun}
-use Rattle.views.specs.Stages.{read_rose, write_rose}
 use Rattle.views.specs.TrueCounts.{Ordered, Setting, TrueCounts, across, after_read, after_write}
 
-abbrev pub RemembersRead : ReadRise → ℕ → Type 0
-RemembersRead readRise.NoneSince before = Unit {0}
-RemembersRead (readRise.Before count) before = count.0 ≡ before % width
+abbrev pub RemembersRead : Option ReadCount → ℕ → Type 0
+RemembersRead None before = Unit {0}
+RemembersRead (Some count) before = count.0 ≡ before % width
 
-abbrev pub RemembersWrite : WriteRise → ℕ → Type 0
-RemembersWrite writeRise.NoneSince before = Unit {0}
-RemembersWrite (writeRise.Before count) before = count.0 ≡ before % width
+abbrev pub RemembersWrite : Option WriteCount → ℕ → Type 0
+RemembersWrite None before = Unit {0}
+RemembersWrite (Some count) before = count.0 ≡ before % width
 
 -- in FWFT with no word untaken, all that was accepted four rises ago is delivered
 abbrev pub Owes : Mode → ℕ → ℕ → Type 0
@@ -42,7 +39,7 @@ pub record Tracks (depth : ℕ) (w : WriteSide) (r : ReadSide) (t : TrueCounts) 
   pub read_second : r.second.0 ≡ t.read_second % width
   pub latest_read : RemembersRead w.latest t.read_before
   pub latest_write : RemembersWrite r.latest t.written_before
-  pub ordered : Ordered depth w.view (just_begun r.setup) (write_rose r.latest) (read_rose w.latest) t
+  pub ordered : Ordered depth w.view (just_begun r.setup) (is_some r.latest) (is_some w.latest) t
   pub setting : Setting r.setup t.one_ago t.two_ago t.three_ago
   pub owes : Owes r.mode t.four_ago t.read
 
@@ -60,5 +57,5 @@ next_true retransmits delivers read = cond retransmits 0 (cond delivers (read + 
 unfoldable pub true_after : ℕ → Pins → WriteSide → ReadSide → TrueCounts → TrueCounts
 true_after depth p w r t =
     after_read (read_rises p r) (retransmits p r) (next_true (retransmits p r) (delivers p r) t.read)
-    (across p.skew.read (write_rose r.latest) t.written t.written_before) t.written
-    (after_write (write_rises p w) (accepts depth p w) (across p.skew.write (read_rose w.latest) t.read t.read_before) t)
+    (across p.skew.read (is_some r.latest) t.written t.written_before) t.written
+    (after_write (write_rises p w) (accepts depth p w) (across p.skew.write (is_some w.latest) t.read t.read_before) t)

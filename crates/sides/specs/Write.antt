@@ -11,7 +11,7 @@ use Rattle.views.specs.declared.retransmit.Setup.{Setup}
 use Rattle.views.specs.Flags.{full_at, paf_low}
 use Rattle.sides.specs.Read.{retransmits}
 use Rattle.views.specs.Retransmit.{just_begun, view_after}
-use Rattle.views.specs.Stages.{latest_read, looks_past, taken_read}
+use Rattle.views.specs.Stages.{rise_after, looks_past, count_taken}
 
 unfoldable pub full : ℕ → WriteSide → Bool
 full depth w = full_at depth (ahead w.count w.second)
@@ -49,9 +49,9 @@ write_after depth m p r w = record {
   level = p.wclk;
   count = write_count_after depth p w;
   wrapped = w.wrapped || accepts depth p w && last_of_width w.count;
-  first = cond (write_rises p w) (taken_read p.skew.write w.latest r.count) w.first;
+  first = cond (write_rises p w) (count_taken p.skew.write w.latest r.count) w.first;
   second = second_after_write p w;
-  latest = latest_read (write_rises p w) (read_rises p r) r.count w.latest;
+  latest = rise_after (write_rises p w) (read_rises p r) r.count w.latest;
   view = view_after (retransmits p r) (write_rises p w) (takes_after p r w) w.view;
   paf = cond (write_rises p w) (not (paf_low depth m (ahead (write_count_after depth p w) (second_after_write p w)))) w.paf;
 }

@@ -5,29 +5,29 @@ ghost use Rattle.sides.specs.Read.{delivers, delivers_by, mode_after, read_after
 ghost use Rattle.std.specs.Prelude.{true, ◌≡◌};
 
 use super::write::WriteSide;
+use counts::choice::pick;
 use counts::part::Part;
 use counts::round::{ReadCount, WriteCount};
 use pins::record::Pins;
 use views::retransmit::Setup;
-use views::stages::WriteRise;
 use views::tables::Table;
 
 // Timing modes. In FWFT the output register may hold a word that no read has taken yet; in Standard a word is taken as
 // it is delivered.
-#[derive(Clone, Copy)]
+#[derive(Clone, Copy, Debug, PartialEq, Eq)]
 pub enum Mode {
     Standard,
     Fwft { untaken: bool },
 }
 
 // `level` is that of RCLK, `pae` that of PAE; `output` is the output register.
-#[derive(Clone, Copy)]
+#[derive(Clone, Copy, Debug, PartialEq, Eq)]
 pub struct ReadSide {
     pub level: bool,
     pub count: ReadCount,
     pub first: WriteCount,
     pub second: WriteCount,
-    pub latest: WriteRise,
+    pub latest: Option<WriteCount>,
     pub setup: Setup,
     pub pae: bool,
     pub mode: Mode,
@@ -45,8 +45,7 @@ pub fn is_retransmit(p: Pins, r: ReadSide) -> bool
 pub fn is_ready(r: ReadSide) -> bool
     ensures { result ≡ ready r }
 {
-    let mode = r.mode;
-    ready_by(mode, sees_word(r))
+    ready_by(r.mode, sees_word(r))
 }
 
 #[tactic(auto, unfolding(crate::specs::Read::reads))]
@@ -60,15 +59,15 @@ fn is_read(p: Pins, r: ReadSide) -> bool
 fn is_delivered(p: Pins, r: ReadSide) -> bool
     ensures { result ≡ delivers p r }
 {
-    let mode = r.mode;
     deliver_by(
-        mode,
+        r.mode,
         super::clocks::read_rises(p, r) & p.rt & sees_word(r),
         is_read(p, r),
     )
 }
 
 // The part and `m` bound rows of PAE's table; which rows there are changes no level (`pae_by_table_lem` of views).
+#[tactic(auto, using(crate::specs::HeldLaws::read_held))]
 pub fn read_after(
     part: Part,
     n: u16,
@@ -83,11 +82,10 @@ pub fn read_after(
     if super::clocks::read_rises(p, r) {
         rise(part, n, m, p, fetched, w, r)
     } else {
-        let latest = r.latest;
         let other = super::clocks::write_rises(p, w);
         hold(
             p.rclk,
-            views::stages::remember_write(false, other, w.count, latest),
+            views::stages::remember(false, other, w.count, r.latest),
             r,
         )
     }
@@ -100,55 +98,31 @@ fn rise(part: Part, n: u16, m: u16, p: Pins, fetched: u32, w: WriteSide, r: Read
 {
     let retransmits = is_retransmit(p, r);
     let delivered = is_delivered(p, r);
-    let moved = counts::round::next_read(delivered, r.count);
-    let count = views::stages::pick_read(retransmits, ReadCount(0), moved);
-    let latest = r.latest;
-    let first = views::stages::take_write(p.skew.read, latest, w.count);
+    let moved = counts::round::next(delivered, r.count);
+    let count = pick(retransmits, ReadCount(0), moved);
     let other = super::clocks::write_rises(p, w);
-    let remembered = views::stages::remember_write(true, other, w.count, latest);
-    let before = r.setup;
-    let setup = views::retransmit::setup_after(true, p.rt, before);
-    let over = views::retransmit::is_over(setup);
+    let setup = views::retransmit::setup_after(true, p.rt, r.setup);
     let second = r.first;
     let words = counts::round::words_ahead(second, count);
-    let held = r.mode;
-    let low = views::flags::is_pae_low(table_of(held), part, n, m, words);
-    let pae = views::stages::pick_level(over, !low, r.pae);
-    let mode = mode_after(held, retransmits, delivered, is_read(p, r));
-    let output = register_after(delivered, fetched, r.output);
+    let low = views::flags::is_pae_low(table_of(r.mode), part, n, m, words);
     ReadSide {
         level: p.rclk,
-        count: count,
-        first: first,
-        second: second,
-        latest: remembered,
-        setup: setup,
-        pae: pae,
-        mode: mode,
-        output: output,
+        count,
+        first: views::stages::take(p.skew.read, r.latest, w.count),
+        second,
+        latest: views::stages::remember(true, other, w.count, r.latest),
+        setup,
+        pae: pick(views::retransmit::is_over(setup), !low, r.pae),
+        mode: mode_after(r.mode, retransmits, delivered, is_read(p, r)),
+        output: register_after(delivered, fetched, r.output),
     }
 }
 
 // Where RCLK does not rise.
-pub fn hold(level: bool, latest: WriteRise, r: ReadSide) -> ReadSide
+pub fn hold(level: bool, latest: Option<WriteCount>, r: ReadSide) -> ReadSide
     ensures { result ≡ held_read level latest r }
 {
-    let count = r.count;
-    let first = r.first;
-    let second = r.second;
-    let setup = r.setup;
-    let mode = r.mode;
-    ReadSide {
-        level: level,
-        count: count,
-        first: first,
-        second: second,
-        latest: latest,
-        setup: setup,
-        pae: r.pae,
-        mode: mode,
-        output: r.output,
-    }
+    ReadSide { level, latest, ..r }
 }
 
 pub fn table_of(mode: Mode) -> Table
@@ -164,8 +138,7 @@ pub fn table_of(mode: Mode) -> Table
 fn sees_word(r: ReadSide) -> bool
     ensures { result ≡ sees_word r }
 {
-    let setup = r.setup;
-    views::retransmit::is_over(setup) & !(r.second.0 == r.count.0)
+    views::retransmit::is_over(r.setup) & (r.second.0 != r.count.0)
 }
 
 fn ready_by(mode: Mode, seen: bool) -> bool

@@ -10,11 +10,10 @@ use counts::part::Part;
 use counts::round::{ReadCount, WriteCount};
 use pins::record::Pins;
 use views::retransmit::View;
-use views::stages::ReadRise;
 
 // `level` is that of WCLK, `paf` that of PAF; `wrapped` says that a word since the last reset took the count round its width.
 // No two counts adjoin: a reset's zeros would make one wide number of them, to be taken apart in every sample.
-#[derive(Clone, Copy)]
+#[derive(Clone, Copy, Debug, PartialEq, Eq)]
 pub struct WriteSide {
     pub level: bool,
     pub count: WriteCount,
@@ -23,7 +22,7 @@ pub struct WriteSide {
     pub paf: bool,
     pub second: ReadCount,
     pub wrapped: bool,
-    pub latest: ReadRise,
+    pub latest: Option<ReadCount>,
 }
 
 #[tactic(auto, unfolding(crate::specs::Write::full))]
@@ -56,28 +55,22 @@ pub fn accepted_more(limit: u16, w: WriteSide) -> bool
 fn takes_after(p: Pins, r: ReadSide, w: WriteSide) -> bool
     ensures { result ≡ takes_after p r w }
 {
-    let latest = w.latest;
-    let setup = r.setup;
-    !(views::stages::looks_past(p.skew.write, latest) & views::retransmit::has_just_begun(setup))
+    !(views::stages::looks_past(p.skew.write, w.latest)
+        & views::retransmit::has_just_begun(r.setup))
 }
 
 // `n` bounds rows of PAF's table; which rows there are changes no level (`paf_by_table_lem` of views).
+#[tactic(auto, using(crate::specs::HeldLaws::write_held))]
 pub fn write_after(part: Part, n: u16, m: u16, p: Pins, r: ReadSide, w: WriteSide) -> WriteSide
     ensures { result ≡ write_after (depth_of part) m p r w }
 {
     if super::clocks::write_rises(p, w) {
         rise(part, n, m, p, r, w)
     } else {
-        let latest = w.latest;
-        let view = w.view;
         let other = super::clocks::read_rises(p, r);
-        let remembered = views::stages::remember_read(false, other, r.count, latest);
-        let seen = views::retransmit::view_after(
-            super::read::is_retransmit(p, r),
-            false,
-            false,
-            view,
-        );
+        let remembered = views::stages::remember(false, other, r.count, w.latest);
+        let retransmits = super::read::is_retransmit(p, r);
+        let seen = views::retransmit::view_after(retransmits, false, false, w.view);
         hold(p.wclk, remembered, seen, w)
     }
 }
@@ -88,47 +81,33 @@ fn rise(part: Part, n: u16, m: u16, p: Pins, r: ReadSide, w: WriteSide) -> Write
     ensures { result ≡ write_after (depth_of part) m p r w }
 {
     let accepted = accepts_word(part, p, w);
-    let count = counts::round::next_write(accepted, w.count);
+    let count = counts::round::next(accepted, w.count);
     let wraps = counts::round::is_last_of_width(w.count);
-    let latest = w.latest;
-    let first = views::stages::take_read(p.skew.write, latest, r.count);
     let other = super::clocks::read_rises(p, r);
-    let remembered = views::stages::remember_read(true, other, r.count, latest);
-    let view = w.view;
     let retransmits = super::read::is_retransmit(p, r);
-    let seen = views::retransmit::view_after(retransmits, true, takes_after(p, r, w), view);
     let second = w.first;
     let words = counts::round::words_ahead(count, second);
-    let mode = r.mode;
-    let table = super::read::table_of(mode);
-    let low = views::flags::is_paf_low(table, part, n, m, words);
+    let table = super::read::table_of(r.mode);
     WriteSide {
         level: p.wclk,
-        count: count,
+        count,
         wrapped: w.wrapped | accepted & wraps,
-        first: first,
-        second: second,
-        latest: remembered,
-        view: seen,
-        paf: !low,
+        first: views::stages::take(p.skew.write, w.latest, r.count),
+        second,
+        latest: views::stages::remember(true, other, r.count, w.latest),
+        view: views::retransmit::view_after(retransmits, true, takes_after(p, r, w), w.view),
+        paf: !views::flags::is_paf_low(table, part, n, m, words),
     }
 }
 
-// Where WCLK does not rise. Field by field: a copy that is then changed keeps the compiler from holding the fields apart.
-pub fn hold(level: bool, latest: ReadRise, view: View, w: WriteSide) -> WriteSide
+// Where WCLK does not rise.
+pub fn hold(level: bool, latest: Option<ReadCount>, view: View, w: WriteSide) -> WriteSide
     ensures { result ≡ held_write level latest view w }
 {
-    let count = w.count;
-    let first = w.first;
-    let second = w.second;
     WriteSide {
-        level: level,
-        count: count,
-        wrapped: w.wrapped,
-        first: first,
-        second: second,
-        latest: latest,
-        view: view,
-        paf: w.paf,
+        level,
+        latest,
+        view,
+        ..w
     }
 }

@@ -1,5 +1,7 @@
 -- The state's bytes: each state is read back as it was written.
-use Rattle.std.specs.Prelude.{ℕ, zero, suc, ◌+◌, ◌*◌, ◌^◌, ◌<◌, Bool, true, false, ◌&&◌, List, [], ◌∷◌, ◌++◌, ◌≡◌, refl, get_or}
+use Rattle.std.specs.Prelude.{ℕ, zero, suc, ◌+◌, ◌*◌, ◌^◌, ◌<◌, Bool, true, false, ◌&&◌, List, [], ◌∷◌, ◌++◌, ◌≡◌, refl, get_or, Option, Some, None, is_some}
+use Rattle.counts.specs.declared.round.WriteCount.{WriteCount}
+use Rattle.counts.specs.declared.round.ReadCount.{ReadCount}
 use Rattle.std.proofs.Common.{lt-ltb, ltb-true, arith}
 use Rattle.chip.specs.declared.state.State.{State}
 use Rattle.chip.specs.Counted.{Counted, power_up_counted, ReadRemembered, WriteRemembered}
@@ -10,15 +12,8 @@ use Rattle.chip.specs.Widths.{apart, tested_widths}
 use Rattle.counts.specs.declared.part.Part.{Part}
 use Rattle.counts.specs.declared.part.Part.TheVariants.{Idt72V255LA, Idt72V265LA}
 use Rattle.counts.specs.Part.{offset_bits}
-use Rattle.offsets.specs.declared.reading.Shows.{Shows}
-use Rattle.offsets.specs.declared.reading.Shows.TheVariants.{Register, Offset}
 use Rattle.offsets.specs.Fits.{few_bits, fits, serial_small}
 use Rattle.offsets.specs.Reading.{shown_fits}
-use Rattle.views.specs.declared.stages.ReadRise.{ReadRise}
-use Rattle.views.specs.declared.stages.ReadRise.TheVariants as readRise
-use Rattle.views.specs.declared.stages.WriteRise.{WriteRise}
-use Rattle.views.specs.declared.stages.WriteRise.TheVariants as writeRise
-use Rattle.views.specs.Stages.{read_rose, write_rose}
 use Rattle.numerals.specs.BytesLaws.{word_again}
 use Rattle.numerals.specs.Bytes.{Four, byte_of, half_at, in_order, low_byte, low_first, low_first_at, pair}
 use Rattle.numerals.specs.Digits.{digit_of, is_m, is_serial, mode_digit, read_before, read_rise_of, setup_digit, shown_offset, shows_offset, view_digit, write_before, write_rise_of}
@@ -39,13 +34,13 @@ record Small (s : State) : Type 0 where
   shown : HalfWord (shown_offset s.reading.shows)
   output : s.read.output < 2 ^ 32
 
-read_before_small : (latest : ReadRise) → ReadRemembered latest → HalfWord (read_before latest)
-read_before_small readRise.NoneSince h = omega arith
-read_before_small (readRise.Before count) h = h
+read_before_small : (latest : Option ReadCount) → ReadRemembered latest → HalfWord (read_before latest)
+read_before_small None h = omega arith
+read_before_small (Some count) h = h
 
-write_before_small : (latest : WriteRise) → WriteRemembered latest → HalfWord (write_before latest)
-write_before_small writeRise.NoneSince h = omega arith
-write_before_small (writeRise.Before count) h = h
+write_before_small : (latest : Option WriteCount) → WriteRemembered latest → HalfWord (write_before latest)
+write_before_small None h = omega arith
+write_before_small (Some count) h = h
 
 half_again : (number : ℕ) → HalfWord number → byte_of 8 number * 2 ^ 8 + low_byte number ≡ number
 half_again number h = omega arith
@@ -59,8 +54,8 @@ state_again s h =
       level_again s.write.level,
       level_again s.read.level,
       level_again s.write.wrapped,
-      level_again (read_rose s.write.latest),
-      level_again (write_rose s.read.latest),
+      level_again (is_some s.write.latest),
+      level_again (is_some s.read.latest),
       level_again s.write.paf,
       level_again s.read.pae,
       level_again (is_serial s.offsets.method),
@@ -108,7 +103,7 @@ unfolding spelling
 all_levels s =
     simp (
       four_levels_lem (spelling s) 0 (level_small s.started) (level_small s.write.level) (level_small s.read.level) (level_small s.write.wrapped),
-      four_levels_lem (spelling s) 4 (level_small (read_rose s.write.latest)) (level_small (write_rose s.read.latest)) (level_small s.write.paf) (level_small s.read.pae),
+      four_levels_lem (spelling s) 4 (level_small (is_some s.write.latest)) (level_small (is_some s.read.latest)) (level_small s.write.paf) (level_small s.read.pae),
       four_levels_lem (spelling s) 8 (level_small (is_serial s.offsets.method)) (level_small (is_m s.offsets.next)) (level_small (is_m s.reading.next))
           (level_small (shows_offset s.reading.shows)),
       four_levels_lem (spelling s) 48 (level_small s.enables.rt) (level_small s.enables.ren) (level_small s.enables.wen) (level_small s.enables.clean),
@@ -129,10 +124,10 @@ own_blanks : (s : State) → Small s → blank_elsewhere (spelling s) ≡ true
 unfolding blank_elsewhere level_at half_at spelling
 own_blanks s h =
     simp (
-      level_again (read_rose s.write.latest),
+      level_again (is_some s.write.latest),
       half_again (read_before s.write.latest) (read_before_small s.write.latest h.counts.write_latest),
       read_blank s.write.latest,
-      level_again (write_rose s.read.latest),
+      level_again (is_some s.read.latest),
       half_again (write_before s.read.latest) (write_before_small s.read.latest h.counts.read_latest),
       write_blank s.read.latest,
       level_again (shows_offset s.reading.shows),
@@ -149,9 +144,9 @@ narrow : (part : Part) → 2 ^ offset_bits part < 2 ^ 16
 narrow Idt72V255LA = omega arith
 narrow Idt72V265LA = omega arith
 
-shown_small : (part : Part) (shows : Shows) → shown_fits part shows ≡ true → HalfWord (shown_offset shows)
-shown_small part Register e = omega arith
-shown_small part (Offset offset) e = let h = ltb-true offset (2 ^ offset_bits part) e in let bits = narrow part in omega arith
+shown_small : (part : Part) (shows : Option ℕ) → shown_fits part shows ≡ true → HalfWord (shown_offset shows)
+shown_small part None e = omega arith
+shown_small part (Some offset) e = let h = ltb-true offset (2 ^ offset_bits part) e in let bits = narrow part in omega arith
 
 small : (part : Part) (s : State) → widths part s ≡ true → Counted s → Small s
 small part s e counts =
@@ -219,7 +214,7 @@ enums_bytes s h =
 levels_bytes : (s : State) → AllFours (levels_of s)
 levels_bytes s =
     let start = digits_bytes s.started s.write.level s.read.level s.write.wrapped in
-    let flags = digits_bytes (read_rose s.write.latest) (write_rose s.read.latest) s.write.paf s.read.pae in
+    let flags = digits_bytes (is_some s.write.latest) (is_some s.read.latest) s.write.paf s.read.pae in
     let offsets = digits_bytes (is_serial s.offsets.method) (is_m s.offsets.next) (is_m s.reading.next) (shows_offset s.reading.shows) in
     (start, (flags, (offsets, tt)))
 

@@ -1,5 +1,5 @@
 -- The state's bytes, and the one spelling of each state.
-use Rattle.std.specs.Prelude.{ℕ, ◌+◌, Bool, ◌&&◌, ◌||◌, List, [], ◌∷◌, ◌++◌, eqb, ltb, get_or, set}
+use Rattle.std.specs.Prelude.{ℕ, ◌+◌, Bool, ◌&&◌, ◌||◌, List, [], ◌∷◌, ◌++◌, eqb, ltb, get_or, set, is_some}
 use Rattle.chip.specs.declared.enables.Enables.{Enables}
 use Rattle.chip.specs.declared.state.State.{State}
 use Rattle.offsets.specs.declared.reading.Reading.{Reading}
@@ -7,7 +7,6 @@ use Rattle.offsets.specs.declared.registers.Offsets.{Offsets}
 use Rattle.offsets.specs.Registers.{method_of}
 use Rattle.sides.specs.declared.read.ReadSide.{ReadSide}
 use Rattle.sides.specs.declared.write.WriteSide.{WriteSide}
-use Rattle.views.specs.Stages.{read_rose, write_rose}
 use Rattle.numerals.specs.Bytes.{Four, half_at, in_order, low_first, low_first_at, pair, put_fours}
 use Rattle.numerals.specs.Digits.{digit_of, is_m, is_serial, level_of, mode_digit, mode_of, next_of, read_before, read_rise_of, setup_digit, setup_of, shown_offset, shows_of, shows_offset, view_digit, view_of, write_before, write_rise_of}
 
@@ -21,7 +20,7 @@ digits first second third fourth = record { first = digit_of first; second = dig
 abbrev pub levels_of : State → List Four
 levels_of s =
     digits s.started s.write.level s.read.level s.write.wrapped
-    ∷ digits (read_rose s.write.latest) (write_rose s.read.latest) s.write.paf s.read.pae
+    ∷ digits (is_some s.write.latest) (is_some s.read.latest) s.write.paf s.read.pae
     ∷ digits (is_serial s.offsets.method) (is_m s.offsets.next) (is_m s.reading.next) (shows_offset s.reading.shows)
     ∷ []
 

@@ -1,6 +1,6 @@
 // The two sides, on the stages: which of the other side's counts one takes, and what it remembers for that. Both sides do alike: a side
 // remembers whether the other clock rose since its own rise or a reset, and then the other side's count that the latest such rise found.
-ghost use Rattle.std.specs.Prelude.{cond, Option, ◌≡◌};
+ghost use Rattle.std.specs.Prelude.{◌≡◌};
 ghost use Rattle.views.specs.Stages.{count_taken, looks_past, rise_after};
 
 use counts::round::ReadCount;
@@ -16,7 +16,7 @@ pub fn take<C: Copy>(met: bool, latest: Option<C>, count: C) -> C
 {
     match latest {
         None => count,
-        Some(earlier) => pick(met, count, earlier),
+        Some(earlier) => counts::choice::pick(met, count, earlier),
     }
 }
 
@@ -30,10 +30,4 @@ pub fn remember<C: Copy>(own: bool, other: bool, count: C, latest: Option<C>) ->
     } else {
         latest
     }
-}
-
-pub fn pick<T: Copy>(moves: bool, next: T, held: T) -> T
-    ensures { result ≡ cond moves next held }
-{
-    if moves { next } else { held }
 }
