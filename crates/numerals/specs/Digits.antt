@@ -54,19 +54,24 @@ abbrev pub next_of : Bool → Next
 next_of second = cond second M N
 
 -- the number beside the digit or 0, and both put together again
+abbrev pub number_before : {Count : Type 0} → (Count → ℕ) → Option Count → ℕ
+number_before number None = 0
+number_before number (Some count) = number count
+
+abbrev pub rise_of : {Count : Type 0} → (ℕ → Count) → Bool → ℕ → Option Count
+rise_of counting rose number = cond rose (Some (counting number)) None
+
 abbrev pub read_before : Option ReadCount → ℕ
-read_before None = 0
-read_before (Some count) = count.0
+read_before = number_before (λ (count : ReadCount). count.0)
 
 abbrev pub read_rise_of : Bool → ℕ → Option ReadCount
-read_rise_of rose count = cond rose (Some (record { 0 = count })) None
+read_rise_of = rise_of (λ n. record { 0 = n })
 
 abbrev pub write_before : Option WriteCount → ℕ
-write_before None = 0
-write_before (Some count) = count.0
+write_before = number_before (λ (count : WriteCount). count.0)
 
 abbrev pub write_rise_of : Bool → ℕ → Option WriteCount
-write_rise_of rose count = cond rose (Some (record { 0 = count })) None
+write_rise_of = rise_of (λ n. record { 0 = n })
 
 abbrev pub shows_offset : Option ℕ → Bool
 shows_offset None = false

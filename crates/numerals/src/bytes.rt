@@ -2,15 +2,6 @@
 // of least weight.
 ghost use Rattle.std.specs.Prelude.{◌+◌, ◌<◌, length, ◌≡◌};
 ghost use Rattle.numerals.specs.Bytes.{half_at, low_first, low_first_at, pair, put_four, put_word};
-ghost use Rattle.pins.specs.Trace.{word_at};
-
-#[tactic(auto, unfolding(pins::specs::Trace::word_at))]
-pub fn word_at(bytes: &[u8], at: usize) -> u32
-    requires { at + 3 < length bytes.now }
-    ensures { result ≡ word_at bytes.now at }
-{
-    pins::trace::word_of(bytes[at], bytes[at + 1], bytes[at + 2], bytes[at + 3])
-}
 
 #[tactic(auto, unfolding(crate::specs::Bytes::low_first_at))]
 pub fn low_first_at(bytes: &[u8], at: usize) -> u32
@@ -25,7 +16,7 @@ pub fn half_at(bytes: &[u8], at: usize) -> u16
     requires { at + 1 < length bytes.now }
     ensures { result ≡ half_at bytes.now at }
 {
-    wide(bytes[at + 1]) * 256 + wide(bytes[at])
+    u16::from_le_bytes([bytes[at], bytes[at + 1]])
 }
 
 #[tactic(auto, unfolding(crate::specs::Bytes::put_word))]
@@ -33,42 +24,25 @@ pub fn put_word(bytes: &mut [u8], at: usize, word: u32)
     requires { at + 3 < length bytes.old }
     ensures { bytes.new ≡ put_word bytes.old at word }
 {
-    put_four(
-        bytes,
-        at,
-        (word / 16777216 % 256) as u8,
-        (word / 65536 % 256) as u8,
-        (word / 256 % 256) as u8,
-        (word % 256) as u8,
-    );
+    let [first, second, third, fourth] = word.to_be_bytes();
+    put_four(bytes, at, first, second, third, fourth);
 }
 
 pub fn put_low_first(bytes: &mut [u8], at: usize, word: u32)
     requires { at + 3 < length bytes.old }
     ensures { bytes.new ≡ put_four bytes.old at (low_first word) }
 {
-    put_four(
-        bytes,
-        at,
-        (word % 256) as u8,
-        (word / 256 % 256) as u8,
-        (word / 65536 % 256) as u8,
-        (word / 16777216 % 256) as u8,
-    );
+    let [first, second, third, fourth] = word.to_le_bytes();
+    put_four(bytes, at, first, second, third, fourth);
 }
 
 pub fn put_pair(bytes: &mut [u8], at: usize, first: u16, second: u16)
     requires { at + 3 < length bytes.old }
     ensures { bytes.new ≡ put_four bytes.old at (pair first second) }
 {
-    put_four(
-        bytes,
-        at,
-        (first % 256) as u8,
-        (first / 256 % 256) as u8,
-        (second % 256) as u8,
-        (second / 256 % 256) as u8,
-    );
+    let [one, two] = first.to_le_bytes();
+    let [three, four] = second.to_le_bytes();
+    put_four(bytes, at, one, two, three, four);
 }
 
 #[tactic(auto, unfolding(crate::specs::Bytes::put_four))]
@@ -80,10 +54,4 @@ pub fn put_four(bytes: &mut [u8], at: usize, first: u8, second: u8, third: u8, f
     bytes[at + 1] = second;
     bytes[at + 2] = third;
     bytes[at + 3] = fourth;
-}
-
-fn wide(number: u8) -> u16
-    ensures { (result ≡ number) × (result < 256) }
-{
-    number as u16
 }

@@ -37,11 +37,5 @@ pub fn word_at(trace: &[u8], at: usize) -> u32
 pub fn word_of(first: u8, second: u8, third: u8, fourth: u8) -> u32
     ensures { result ≡ joined first second third fourth }
 {
-    wide(first) * 16777216 + wide(second) * 65536 + wide(third) * 256 + wide(fourth)
-}
-
-fn wide(byte: u8) -> u32
-    ensures { (result ≡ byte) × (result < 256) }
-{
-    byte as u32
+    u32::from_be_bytes([first, second, third, fourth])
 }

@@ -9,7 +9,7 @@ use counts::round::{ReadCount, WriteCount};
 use numerals::bytes::{half_at, low_first_at, put_four, put_low_first, put_pair};
 use numerals::digits;
 use offsets::reading::Reading;
-use offsets::registers::Offsets;
+use offsets::registers::{Method, Next, Offsets};
 use sides::read::ReadSide;
 use sides::write::WriteSide;
 
@@ -21,18 +21,13 @@ pub fn read_state(bytes: &[u8]) -> State
     requires { length bytes.now ≡ state_bytes }
     ensures { result ≡ state_in bytes.now }
 {
-    let write = read_write_side(bytes);
-    let read = read_read_side(bytes);
-    let offsets = read_offsets(bytes);
-    let reading = read_reading(bytes);
-    let enables = read_enables(bytes);
     State {
         started: level_at(bytes, 0),
-        write: write,
-        read: read,
-        offsets: offsets,
-        reading: reading,
-        enables: enables,
+        write: read_write_side(bytes),
+        read: read_read_side(bytes),
+        offsets: read_offsets(bytes),
+        reading: read_reading(bytes),
+        enables: read_enables(bytes),
     }
 }
 
@@ -41,16 +36,14 @@ fn read_write_side(bytes: &[u8]) -> WriteSide
     requires { length bytes.now ≡ state_bytes }
     ensures { result ≡ write_in bytes.now }
 {
-    let latest = digits::read_rise(level_at(bytes, 4), half_at(bytes, 22));
-    let view = digits::view(bytes[12]);
     WriteSide {
         level: level_at(bytes, 1),
         count: WriteCount(half_at(bytes, 16)),
         wrapped: level_at(bytes, 3),
         first: ReadCount(half_at(bytes, 18)),
         second: ReadCount(half_at(bytes, 20)),
-        latest: latest,
-        view: view,
+        latest: digits::rise(level_at(bytes, 4), half_at(bytes, 22)),
+        view: digits::view(bytes[12]),
         paf: level_at(bytes, 6),
     }
 }
@@ -60,18 +53,15 @@ fn read_read_side(bytes: &[u8]) -> ReadSide
     requires { length bytes.now ≡ state_bytes }
     ensures { result ≡ read_in bytes.now }
 {
-    let latest = digits::write_rise(level_at(bytes, 5), half_at(bytes, 30));
-    let setup = digits::setup(bytes[13]);
-    let mode = digits::mode(bytes[14]);
     ReadSide {
         level: level_at(bytes, 2),
         count: ReadCount(half_at(bytes, 24)),
         first: WriteCount(half_at(bytes, 26)),
         second: WriteCount(half_at(bytes, 28)),
-        latest: latest,
-        setup: setup,
+        latest: digits::rise(level_at(bytes, 5), half_at(bytes, 30)),
+        setup: digits::setup(bytes[13]),
         pae: level_at(bytes, 7),
-        mode: mode,
+        mode: digits::mode(bytes[14]),
         output: low_first_at(bytes, 44),
     }
 }
@@ -81,13 +71,11 @@ fn read_offsets(bytes: &[u8]) -> Offsets
     requires { length bytes.now ≡ state_bytes }
     ensures { result ≡ offsets_in bytes.now }
 {
-    let method = digits::method(level_at(bytes, 8));
-    let next = digits::next(level_at(bytes, 9));
     Offsets {
         n: half_at(bytes, 32),
         m: half_at(bytes, 34),
-        method: method,
-        next: next,
+        method: digits::method(level_at(bytes, 8)),
+        next: digits::next(level_at(bytes, 9)),
         serial: low_first_at(bytes, 36),
         count: bytes[15],
     }
@@ -98,11 +86,9 @@ fn read_reading(bytes: &[u8]) -> Reading
     requires { length bytes.now ≡ state_bytes }
     ensures { result ≡ reading_in bytes.now }
 {
-    let next = digits::next(level_at(bytes, 10));
-    let shows = digits::shows(level_at(bytes, 11), half_at(bytes, 40));
     Reading {
-        next: next,
-        shows: shows,
+        next: digits::next(level_at(bytes, 10)),
+        shows: level_at(bytes, 11).then_some(half_at(bytes, 40)),
     }
 }
 
@@ -187,32 +173,29 @@ fn put_levels(s: State, bytes: &mut [u8])
     requires { length bytes.old ≡ state_bytes }
     ensures { bytes.new ≡ put_fours 0 (levels_of s) bytes.old }
 {
-    let write = s.write;
-    let read = s.read;
-    let offsets = s.offsets;
-    let reading = s.reading;
-    let read_rise = write.latest;
-    let write_rise = read.latest;
-    let method = offsets.method;
-    let to_load = offsets.next;
-    let to_read = reading.next;
-    let shows = reading.shows;
-    put_four_levels(bytes, 0, s.started, write.level, read.level, write.wrapped);
+    put_four_levels(
+        bytes,
+        0,
+        s.started,
+        s.write.level,
+        s.read.level,
+        s.write.wrapped,
+    );
     put_four_levels(
         bytes,
         4,
-        digits::has_read_rise(read_rise),
-        digits::has_write_rise(write_rise),
-        write.paf,
-        read.pae,
+        s.write.latest.is_some(),
+        s.read.latest.is_some(),
+        s.write.paf,
+        s.read.pae,
     );
     put_four_levels(
         bytes,
         8,
-        digits::is_serial(method),
-        digits::is_m(to_load),
-        digits::is_m(to_read),
-        digits::has_offset(shows),
+        s.offsets.method == Method::Serial,
+        s.offsets.next == Next::M,
+        s.reading.next == Next::M,
+        s.reading.shows.is_some(),
     );
 }
 
@@ -230,10 +213,10 @@ fn put_four_levels(
     put_four(
         bytes,
         at,
-        digits::digit(first),
-        digits::digit(second),
-        digits::digit(third),
-        digits::digit(fourth),
+        u8::from(first),
+        u8::from(second),
+        u8::from(third),
+        u8::from(fourth),
     );
 }
 
@@ -241,17 +224,12 @@ fn put_enums(s: State, bytes: &mut [u8])
     requires { length bytes.old ≡ state_bytes }
     ensures { bytes.new ≡ put_fours 12 (enums_of s) bytes.old }
 {
-    let write = s.write;
-    let read = s.read;
-    let view = write.view;
-    let setup = read.setup;
-    let mode = read.mode;
     put_four(
         bytes,
         12,
-        digits::view_digit(view),
-        digits::setup_digit(setup),
-        digits::mode_digit(mode),
+        s.write.view as u8,
+        s.read.setup as u8,
+        digits::mode_digit(s.read.mode),
         s.offsets.count,
     );
 }
@@ -260,25 +238,19 @@ fn put_counts(s: State, bytes: &mut [u8])
     requires { length bytes.old ≡ state_bytes }
     ensures { bytes.new ≡ put_fours 16 (counts_of s) bytes.old }
 {
-    let write = s.write;
-    let read = s.read;
-    let read_rise = write.latest;
-    let write_rise = read.latest;
     put_pair(bytes, 16, s.write.count.0, s.write.first.0);
-    put_pair(bytes, 20, s.write.second.0, digits::read_before(read_rise));
+    put_pair(bytes, 20, s.write.second.0, digits::before(s.write.latest));
     put_pair(bytes, 24, s.read.count.0, s.read.first.0);
-    put_pair(bytes, 28, s.read.second.0, digits::write_before(write_rise));
+    put_pair(bytes, 28, s.read.second.0, digits::before(s.read.latest));
 }
 
 fn put_rest(s: State, bytes: &mut [u8])
     requires { length bytes.old ≡ state_bytes }
     ensures { bytes.new ≡ put_fours 32 (rest_of s) bytes.old }
 {
-    let reading = s.reading;
-    let shows = reading.shows;
     put_pair(bytes, 32, s.offsets.n, s.offsets.m);
     put_low_first(bytes, 36, s.offsets.serial);
-    put_pair(bytes, 40, digits::shown_offset(shows), 0);
+    put_pair(bytes, 40, s.reading.shows.unwrap_or(0), 0);
     put_low_first(bytes, 44, s.read.output);
 }
 
@@ -311,6 +283,6 @@ fn put_clocks(wclk: bool, rclk: bool, bytes: &mut [u8])
     requires { length bytes.old ≡ state_bytes }
     ensures { bytes.new ≡ put_clocks wclk rclk bytes.old }
 {
-    bytes[1] = digits::digit(wclk);
-    bytes[2] = digits::digit(rclk);
+    bytes[1] = u8::from(wclk);
+    bytes[2] = u8::from(rclk);
 }
