@@ -3,33 +3,33 @@ ghost use Rattle.std.specs.Prelude.{◌*◌, ◌+◌, ◌<◌, length, ◌≡◌
 ghost use Rattle.buffers.specs.Memory.{Within, memory_bytes, stored_in, word_size};
 ghost use Rattle.pins.specs.Trace.{word_at};
 
-use chip::advance::Store;
+use chip::advance::Put;
 use counts::part::Part;
 
 pub fn memory_bytes(part: Part) -> u32
     ensures { result ≡ memory_bytes part }
 {
-    super::wide::wide(counts::part::depth(part)) * 4
+    u32::from(counts::part::depth(part)) * 4
 }
 
 pub fn fetch(memory: &[u8], place: u16) -> u32
     requires { place * word_size + 3 < length memory.now }
     ensures { result ≡ word_at memory.now (place * word_size) }
 {
-    numerals::bytes::word_at(memory, byte_place(place))
+    pins::trace::word_at(memory, byte_place(place))
 }
 
-pub fn put_away(store: Store, memory: &mut [u8])
+pub fn put_away(store: Option<Put>, memory: &mut [u8])
     requires { Within store (length memory.old) }
     ensures { memory.new ≡ stored_in store memory.old }
 {
-    if let Store::Put(place, word) = store {
-        numerals::bytes::put_word(memory, byte_place(place), word);
+    if let Some(put) = store {
+        numerals::bytes::put_word(memory, byte_place(put.place), put.word);
     }
 }
 
 fn byte_place(place: u16) -> usize
     ensures { (result ≡ place * word_size) × (result < 262144) }
 {
-    (place as usize) * 4
+    usize::from(place) * 4
 }

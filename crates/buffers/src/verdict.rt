@@ -56,7 +56,7 @@ fn judge_record(part: Part, record: &[u8]) -> Verdict
     ensures { result ≡ on_record part «record».now }
 {
     if record.len() == 4 {
-        Verdict::Work(part, numerals::bytes::word_at(record, 0))
+        Verdict::Work(part, pins::trace::word_at(record, 0))
     } else {
         Verdict::Refuse(4)
     }

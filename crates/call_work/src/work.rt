@@ -61,7 +61,7 @@ fn take(part: Part, word: u32, state: &mut [u8], memory: &mut [u8], answer: &mut
     ensures { Gives (taken part word (state_in state.old) memory.old answer.old) 0 state.new memory.new answer.new }
 {
     let s = spelling::state::read_state(state);
-    let place = counts::round::read_place(part, s.read.count);
+    let place = counts::round::place(part, s.read.count);
     let fetched = buffers::memory::fetch(memory, place);
     let advanced = chip::advance::advance(part, pins::record::decode(word), fetched, s);
     let store = advanced.store;

@@ -90,7 +90,7 @@ fn take_or_turn_away(part: Part, record: u32, state: State, memory: &mut [u32]) 
 pub fn is_depth(part: Part, words: usize) -> bool
     ensures { result ≡ is_depth part words }
 {
-    words == wide(counts::part::depth(part))
+    words == usize::from(counts::part::depth(part))
 }
 
 // The number, 5 to 10 or 12, of the first refusal that applies to a record of four bytes, or 0.
@@ -132,10 +132,4 @@ fn turn_away(number: u8, state: State) -> Sampled
         outcome: Outcome::Refused(number),
         state: state,
     }
-}
-
-fn wide(x: u16) -> usize
-    ensures { result ≡ x }
-{
-    x as usize
 }

@@ -5,7 +5,7 @@ ghost use Rattle.halves.specs.Two.{two};
 ghost use Rattle.std.specs.Prelude.{true, ◌≡◌};
 
 use super::state::Halves;
-use chip::advance::{Advanced, Store};
+use chip::advance::Advanced;
 use chip::state::State;
 use counts::part::Part;
 
@@ -52,7 +52,7 @@ fn ask(part: Part, record: u32, state: State, memory: &[u32]) -> Trial
         advanced: Advanced {
             state: state,
             answer: 0,
-            store: Store::Keep,
+            store: None,
         },
     }
 }

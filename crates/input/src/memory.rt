@@ -2,7 +2,6 @@
 ghost use Rattle.std.specs.Prelude.{◌*◌, ◌≤◌, leb, cond, ◌≡◌};
 ghost use Rattle.counts.specs.Part.{by_part, depth_of, part_of};
 
-
 // No part's memory is longer, in words.
 pub const MOST: usize = 16384;
 

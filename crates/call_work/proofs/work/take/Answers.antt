@@ -10,11 +10,11 @@ pub put_away-requires : goal.put_away-requires
 put_away-requires c =
     let a = c.args in
     store_in_memory a.part a.word a.state.now a.memory.now a.answer.now c.read_state-s.ensures c.decode.ensures
-    c.read_place-place.ensures c.fetch-fetched.ensures c.advance-advanced.ensures c.requires.lengths.memory
+    c.place-place.ensures c.fetch-fetched.ensures c.advance-advanced.ensures c.requires.lengths.memory
 
 pub returns : goal.returns
 returns c =
     let a = c.args in
     takes a.part a.word a.state.now a.memory.now a.answer.now c.read_state-s.ensures c.decode.ensures
-    c.read_place-place.ensures c.fetch-fetched.ensures c.advance-advanced.ensures
+    c.place-place.ensures c.fetch-fetched.ensures c.advance-advanced.ensures
     c.write_state.ensures c.put_away.ensures c.put_answer.ensures
