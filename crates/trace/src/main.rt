@@ -1,11 +1,11 @@
 // The trace program: a part number and records on standard input, a line for each record on standard output.
 #![tactic(auto)]
 
-mod part;
+mod lent_part;
 
 use input::manner::Manner;
 use input::{header, manner, memory};
-use part::LentPart;
+use lent_part::LentPart;
 use trace_program::chunks;
 
 fn main(rt: HostRuntime) {

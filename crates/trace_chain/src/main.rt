@@ -2,11 +2,11 @@
 // record on standard output.
 #![tactic(auto)]
 
-mod chain;
+mod lent_chain;
 
-use chain::LentChain;
 use input::manner::Manner;
 use input::{header, manner, memory};
+use lent_chain::LentChain;
 use trace_program::chunks;
 
 fn main(rt: HostRuntime) {
