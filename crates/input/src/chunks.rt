@@ -29,5 +29,5 @@ pub fn read<R: Read>(input: &mut R, chunk: &mut [u8]) -> usize
 pub fn is_last(came: usize, chunk: usize, printed: bool) -> bool
     ensures { result ≡ ltb came chunk || not printed }
 {
-    (came < chunk) | !printed
+    came < chunk || !printed
 }

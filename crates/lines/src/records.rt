@@ -13,7 +13,7 @@ pub const LONGEST: usize = 50;
 #[derive(Clone, Copy)]
 pub enum Shown<'a> {
     Answer(&'a [u8]),
-    FlagsAndTwoAnswers(&'a [u8], &'a [u8]),
+    FlagsAndTwoAnswers { flags: &'a [u8], answers: &'a [u8] },
 }
 
 // The lines of records that follow one another, `base` the index of the first. Each has a mark, the number under which it was
@@ -70,7 +70,7 @@ impl Shown<'_> {
                 put_answer(room, at, answers, i * 3);
                 at + 7
             }
-            Shown::FlagsAndTwoAnswers(flags, answers) => {
+            Shown::FlagsAndTwoAnswers { flags, answers } => {
                 put_flags(room, at, flags, i * 2);
                 put_answer(room, at + 3, answers, i * 6);
                 put_answer(room, at + 10, answers, i * 6 + 3);

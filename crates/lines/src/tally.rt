@@ -32,7 +32,7 @@ impl Tally {
             records: self.records.wrapping_add(index as u64),
             accepted: self.accepted.wrapping_add(accepted as u64),
             refusal,
-            over: last | (refusal != 0),
+            over: last || refusal != 0,
         }
     }
 }

@@ -27,5 +27,8 @@ pub(crate) fn show<'a>(before: Halves, chunk: Chunk<'a>, flags: &'a mut [u8]) ->
             lines::flags::note(pair, 0, flag.ff, flag.ef);
         }
     }
-    Shown::FlagsAndTwoAnswers(flags, chunk.answers)
+    Shown::FlagsAndTwoAnswers {
+        flags,
+        answers: chunk.answers,
+    }
 }
