@@ -10,10 +10,10 @@ pub(crate) fn first_of(limits: Limits, row: Row) -> u32
     match row {
         Row::Empty => 0,
         Row::AlmostEmpty => 1,
-        Row::ToHalf => limits.few as u32 + 1,
-        Row::AboveHalf => limits.half as u32 + 1,
-        Row::AlmostFull => limits.many as u32,
-        Row::Full => limits.full as u32,
+        Row::ToHalf => u32::from(limits.few) + 1,
+        Row::AboveHalf => u32::from(limits.half) + 1,
+        Row::AlmostFull => u32::from(limits.many),
+        Row::Full => u32::from(limits.full),
     }
 }
 
@@ -22,10 +22,10 @@ pub(crate) fn last_of(limits: Limits, row: Row) -> u32
 {
     match row {
         Row::Empty => 0,
-        Row::AlmostEmpty => limits.few as u32,
-        Row::ToHalf => limits.half as u32,
-        Row::AboveHalf => views::tables::less(limits.many, 1) as u32,
-        Row::AlmostFull => views::tables::less(limits.full, 1) as u32,
-        Row::Full => limits.full as u32,
+        Row::AlmostEmpty => u32::from(limits.few),
+        Row::ToHalf => u32::from(limits.half),
+        Row::AboveHalf => u32::from(views::tables::less(limits.many, 1)),
+        Row::AlmostFull => u32::from(views::tables::less(limits.full, 1)),
+        Row::Full => u32::from(limits.full),
     }
 }

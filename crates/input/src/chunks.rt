@@ -9,7 +9,7 @@ use std::io::Read;
 pub const RECORDS: usize = 4096;
 
 // How many bytes came, from the start of the chunk on; they are the next ones, where the reader's are known. A read that fails ends
-// the input.
+// the input. The loop is written out, since `read_exact` does not say how many bytes came before the end.
 pub fn read<R: Read>(input: &mut R, chunk: &mut [u8]) -> usize
     ensures in_bounds { IsPrefixLen result chunk.new }
     ensures bytes { Consumes (R.remaining input.old) (R.remaining input.new) (take result chunk.new) }
@@ -29,5 +29,5 @@ pub fn read<R: Read>(input: &mut R, chunk: &mut [u8]) -> usize
 pub fn is_last(came: usize, chunk: usize, printed: bool) -> bool
     ensures { result ≡ ltb came chunk || not printed }
 {
-    (came < chunk) | !printed
+    came < chunk || !printed
 }

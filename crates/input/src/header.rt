@@ -1,6 +1,6 @@
 // Bench figures, the trace programs: the part number that their input starts with, and the number of parts in a row after it.
 ghost use Rattle.input.specs.Header.{number_of, parts_of};
-ghost use Rattle.std.specs.Prelude.{◌<◌, ◌≡◌};
+ghost use Rattle.std.specs.Prelude.{◌≡◌};
 
 use super::chunks;
 use std::io::Read;
@@ -15,10 +15,9 @@ pub fn read_part_number<R: Read>(input: &mut R) -> u32 {
 fn part_number(header: &[u8]) -> u32
     ensures { result ≡ number_of header.now }
 {
-    if header.len() < 2 {
-        0
-    } else {
-        wide(header[0]) * 256 + wide(header[1])
+    match header {
+        [high, low, ..] => u32::from(u16::from_be_bytes([*high, *low])),
+        _ => 0,
     }
 }
 
@@ -32,18 +31,8 @@ pub fn read_count_of_parts<R: Read>(input: &mut R) -> usize {
 fn count_of_parts(header: &[u8]) -> usize
     ensures { result ≡ parts_of header.now }
 {
-    if header.len() < 1 { 0 } else { size(header[0]) }
-}
-
-// A cast in a function of its own asks nothing of the proofs around it.
-fn wide(byte: u8) -> u32
-    ensures { (result ≡ byte) × (result < 256) }
-{
-    byte as u32
-}
-
-fn size(byte: u8) -> usize
-    ensures { result ≡ byte }
-{
-    byte as usize
+    match header {
+        [parts, ..] => usize::from(*parts),
+        [] => 0,
+    }
 }

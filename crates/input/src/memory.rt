@@ -14,7 +14,7 @@ pub fn words(number: u32) -> usize
 {
     let looked_up = counts::part::look_up(number);
     match looked_up {
-        Some(part) => wide(counts::part::depth(part)),
+        Some(part) => usize::from(counts::part::depth(part)),
         None => 0,
     }
 }
@@ -24,10 +24,4 @@ pub fn words_of_row(number: u32, parts: usize) -> usize
     ensures { (result ≡ cond (leb parts 8) (parts * by_part (part_of number) depth_of 0) 0) × (result ≤ 131072) }
 {
     if parts <= 8 { parts * words(number) } else { 0 }
-}
-
-fn wide(words: u16) -> usize
-    ensures { result ≡ words }
-{
-    words as usize
 }

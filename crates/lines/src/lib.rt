@@ -4,4 +4,3 @@
 pub mod flags;
 pub mod records;
 pub mod tally;
-mod widths;

@@ -3,125 +3,79 @@ ghost use Rattle.std.specs.Prelude.{◌≡◌, ◌+◌, ◌*◌, ◌^◌, ◌<�
 ghost use Rattle.lines.specs.Records.{put_answer, put_flags, put_taken, shown_bytes};
 
 use super::tally::Tally;
-use super::widths;
+use std::io;
 use text::{bytes, digits};
 
 // No line is longer, in bytes: two numbers of 20 digits at most, nine bytes of a word and its blanks, and the end of the line.
 pub const LONGEST: usize = 50;
 
-// What a line shows of a record that was taken, after its index. An answer is three bytes, flags are two digits.
+// What the lines show of the records that were taken, after their indices. An answer is three bytes, flags are two digits.
 #[derive(Clone, Copy)]
-pub enum Layout {
-    Answer,
-    FlagsAndTwoAnswers,
+pub enum Shown<'a> {
+    Answer(&'a [u8]),
+    FlagsAndTwoAnswers { flags: &'a [u8], answers: &'a [u8] },
 }
 
-// All lines of a chunk, whose first record has the index `base`, in one write. What comes back is whether somebody took the lines.
-pub fn print_records(
-    out: &impl Print,
-    room: &mut [u8],
-    base: u64,
-    layout: Layout,
-    flags: &[u8],
-    answers: &[u8],
-    marks: &[u8],
-    records: usize,
-) -> bool {
-    let count = least(records, room.len() / LONGEST);
-    let end = put_records(room, base, layout, flags, answers, marks, count);
-    write_first(out, room, end)
+// The lines of records that follow one another, `base` the index of the first. Each has a mark, the number under which it was
+// refused, 0 where there is an answer.
+#[derive(Clone, Copy)]
+pub struct Lines<'a> {
+    pub base: u64,
+    pub shown: Shown<'a>,
+    pub marks: &'a [u8],
 }
 
-// The last line of all.
-pub fn print_end(out: &impl Print, tally: Tally) {
-    let mut room = [0u8; LONGEST];
-    let first = bytes::put_text(&mut room, 0, b"end ");
-    let after = digits::put_decimal(&mut room, first, tally.accepted);
-    let end = put_ending(&mut room, after, b" ", tally.refusal);
-    write_first(out, &room, end);
-}
-
-// A chunk's records always fit; one compare spares a law that says so.
-fn least(a: usize, b: usize) -> usize
-    ensures { (result ≤ a) × (result ≤ b) }
-{
-    if a < b { a } else { b }
-}
-
-fn write_first(out: &impl Print, room: &[u8], count: usize) -> bool
-    requires { count ≤ length room.now }
-{
-    out.write_all(&room[..count]).is_ok()
-}
-
-fn put_records(
-    room: &mut [u8],
-    base: u64,
-    layout: Layout,
-    flags: &[u8],
-    answers: &[u8],
-    marks: &[u8],
-    count: usize,
-) -> usize
-    requires { count * 50 ≤ length room.old }
-    ensures { result ≤ count * 50 }
-{
-    let mut at: usize = 0;
-    let mut i: usize = 0;
-    while i < count {
-        let index = std::num::wrapping_add_u64(base, widths::from_size(i));
-        at = put_record(room, at, index, layout, flags, answers, marks, i);
-        i += 1;
+impl Lines<'_> {
+    // In one write.
+    pub fn print(&self, out: &impl Print, room: &mut [u8]) -> io::Result<()> {
+        // A chunk's records always fit; one compare spares a law that says so.
+        let count = self.marks.len().min(room.len() / LONGEST);
+        let end = self.put(room, count);
+        out.write_all(&room[..end])
     }
-    at
-}
 
-// A mark is the number under which its record was refused, 0 where there is an answer.
-fn put_record(
-    room: &mut [u8],
-    at: usize,
-    index: u64,
-    layout: Layout,
-    flags: &[u8],
-    answers: &[u8],
-    marks: &[u8],
-    i: usize,
-) -> usize
-    requires { (at ≤ i * 50) × (i * 50 + 50 ≤ length room.old) }
-    ensures { result ≤ at + 50 }
-{
-    let after = digits::put_decimal(room, at, index);
-    let mark = byte_at(marks, i);
-    if mark == 0 {
-        let end = put_taken(room, after, layout, flags, answers, i);
-        bytes::put_byte(room, end, b'\n');
-        end + 1
-    } else {
-        put_ending(room, after, b" refused ", mark)
-    }
-}
-
-fn put_taken(
-    room: &mut [u8],
-    at: usize,
-    layout: Layout,
-    flags: &[u8],
-    answers: &[u8],
-    i: usize,
-) -> usize
-    requires { (at + 17 ≤ length room.old) × (i * 6 + 5 < 2 ^ 64) }
-    ensures { (result ≤ at + 17) × (result ≡ at + shown_bytes layout) × (room.new ≡ put_taken layout room.old at flags.now answers.now i) }
-{
-    match layout {
-        Layout::Answer => {
-            put_answer(room, at, answers, i * 3);
-            at + 7
+    fn put(&self, room: &mut [u8], count: usize) -> usize
+        requires { (count ≤ length self.now.marks.now) × (count * 50 ≤ length room.old) }
+        ensures { result ≤ count * 50 }
+    {
+        let mut at = 0;
+        for (i, mark) in self.marks[..count].iter().enumerate() {
+            at = self.put_line(room, at, i, *mark);
         }
-        Layout::FlagsAndTwoAnswers => {
-            put_flags(room, at, flags, i * 2);
-            put_answer(room, at + 3, answers, i * 6);
-            put_answer(room, at + 10, answers, i * 6 + 3);
-            at + 17
+        at
+    }
+
+    fn put_line(&self, room: &mut [u8], at: usize, i: usize, mark: u8) -> usize
+        requires { (at ≤ i * 50) × (i * 50 + 50 ≤ length room.old) }
+        ensures { result ≤ at + 50 }
+    {
+        let after = digits::put_decimal(room, at, self.base.wrapping_add(i as u64));
+        if mark == 0 {
+            let end = self.shown.put_taken(room, after, i);
+            bytes::put_byte(room, end, b'\n');
+            end + 1
+        } else {
+            put_ending(room, after, b" refused ", mark)
+        }
+    }
+}
+
+impl Shown<'_> {
+    fn put_taken(&self, room: &mut [u8], at: usize, i: usize) -> usize
+        requires { (at + 17 ≤ length room.old) × (i * 6 + 5 < 2 ^ 64) }
+        ensures { (result ≤ at + 17) × (result ≡ at + shown_bytes self.now) × (room.new ≡ put_taken self.now room.old at i) }
+    {
+        match *self {
+            Shown::Answer(answers) => {
+                put_answer(room, at, answers, i * 3);
+                at + 7
+            }
+            Shown::FlagsAndTwoAnswers { flags, answers } => {
+                put_flags(room, at, flags, i * 2);
+                put_answer(room, at + 3, answers, i * 6);
+                put_answer(room, at + 10, answers, i * 6 + 3);
+                at + 17
+            }
         }
     }
 }
@@ -151,7 +105,17 @@ fn put_answer(room: &mut [u8], at: usize, answers: &[u8], from: usize)
 fn byte_at(bytes: &[u8], at: usize) -> u8
     ensures { result ≡ slice_index bytes.now at }
 {
-    if at < bytes.len() { bytes[at] } else { 0 }
+    bytes.get(at).copied().unwrap_or(0)
+}
+
+// The last line of all.
+pub fn print_end(out: &impl Print, tally: Tally) {
+    let mut room = [0u8; LONGEST];
+    let first = bytes::put_text(&mut room, 0, b"end ");
+    let after = digits::put_decimal(&mut room, first, tally.accepted);
+    let end = put_ending(&mut room, after, b" ", tally.refusal);
+    // There is nothing to be done where nobody takes it.
+    let _ = out.write_all(&room[..end]);
 }
 
 // A word, a number, and the end of the line.
@@ -160,7 +124,7 @@ fn put_ending(room: &mut [u8], at: usize, word: &[u8], number: u8) -> usize
     ensures { result ≤ at + length word.now + 21 }
 {
     let after = bytes::put_text(room, at, word);
-    let end = digits::put_decimal(room, after, widths::from_number(number));
+    let end = digits::put_decimal(room, after, u64::from(number));
     bytes::put_byte(room, end, b'\n');
     end + 1
 }

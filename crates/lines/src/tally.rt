@@ -2,8 +2,6 @@
 ghost use Rattle.lines.specs.Tally.{counted, nothing};
 ghost use Rattle.std.specs.Prelude.{◌≡◌};
 
-use super::widths;
-
 // `records` counts those with a line, `accepted` those with an answer.
 #[derive(Clone, Copy)]
 pub struct Tally {
@@ -13,26 +11,28 @@ pub struct Tally {
     pub over: bool,
 }
 
-pub fn start() -> Tally
-    ensures { result ≡ nothing }
-{
-    Tally {
-        records: 0,
-        accepted: 0,
-        refusal: 0,
-        over: false,
+impl Tally {
+    pub fn start() -> Tally
+        ensures { result ≡ nothing }
+    {
+        Tally {
+            records: 0,
+            accepted: 0,
+            refusal: 0,
+            over: false,
+        }
     }
-}
 
-// A chunk more, in which a run ended at an index; it is the last one of the trace, or a refusal makes it so.
-#[tactic(auto, unfolding(crate::specs::Tally::counted))]
-pub fn count(before: Tally, index: usize, accepted: usize, refusal: u8, last: bool) -> Tally
-    ensures { result ≡ counted before index accepted refusal last }
-{
-    Tally {
-        records: std::num::wrapping_add_u64(before.records, widths::from_size(index)),
-        accepted: std::num::wrapping_add_u64(before.accepted, widths::from_size(accepted)),
-        refusal: refusal,
-        over: last | (refusal != 0),
+    // A chunk more, in which a run ended at an index; it is the last one of the trace, or a refusal makes it so.
+    #[tactic(auto, unfolding(crate::specs::Tally::counted))]
+    pub fn count(self, index: usize, accepted: usize, refusal: u8, last: bool) -> Tally
+        ensures { result ≡ counted self index accepted refusal last }
+    {
+        Tally {
+            records: self.records.wrapping_add(index as u64),
+            accepted: self.accepted.wrapping_add(accepted as u64),
+            refusal,
+            over: last || refusal != 0,
+        }
     }
 }

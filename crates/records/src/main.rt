@@ -8,26 +8,19 @@ use std::io;
 fn print_found(out: &impl Print, found: Record) -> io::Result<()> {
     match found {
         Record::Whole(word, unsettled) => {
-            print!(out; "{word:08x}")?;
-            print_mark(out, unsettled)
+            let mark = if unsettled { " unsettled" } else { "" };
+            println!(out; "{word:08x}{mark}")
         }
         Record::Leftover => println!(out; "leftover"),
         Record::End => println!(out; "end"),
     }
 }
 
-fn print_mark(out: &impl Print, unsettled: bool) -> io::Result<()> {
-    if unsettled {
-        println!(out; " unsettled")
-    } else {
-        println!(out; "")
-    }
-}
-
 fn print_three(out: &impl Print, trace: &[u8]) -> io::Result<()> {
-    print_found(out, reader::record_of(trace, 0))?;
-    print_found(out, reader::record_of(trace, 1))?;
-    print_found(out, reader::record_of(trace, 2))
+    for index in 0..3 {
+        print_found(out, reader::record_of(trace, index))?;
+    }
+    Ok(())
 }
 
 fn main(rt: HostRuntime) -> io::Result<()> {

@@ -23,10 +23,14 @@ pub fn put_hex(room: &mut [u8], at: usize, byte: u8)
     put_byte(room, at + 1, hex_digit(byte % 16));
 }
 
+// By hand: `char::from_digit` gives small letters, and nothing is promised of what `write!` leaves in a lent room.
 fn hex_digit(value: u8) -> u8
     requires { value < 16 }
     ensures { result ≡ hex_digit value }
 {
-    // 55 + 10 is the code of A.
-    if value < 10 { b'0' + value } else { 55 + value }
+    if value < 10 {
+        b'0' + value
+    } else {
+        b'A' + (value - 10)
+    }
 }

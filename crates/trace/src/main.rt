@@ -1,24 +1,30 @@
 // The trace program: a part number and records on standard input, a line for each record on standard output.
 #![tactic(auto)]
 
-mod chunks;
+mod lent_part;
 
 use input::manner::Manner;
+use input::{header, manner, memory};
+use lent_part::LentPart;
+use trace_program::chunks;
 
 fn main(rt: HostRuntime) {
-    let asked = input::manner::asked(&rt);
-    match asked {
-        Manner::Strict => trace(&rt, false),
-        Manner::Lenient => trace(&rt, true),
-        Manner::Unknown => input::manner::complain(&mut rt.stderr(), b"trace"),
+    match manner::asked(&rt) {
+        Ok(manner) => trace(&rt, manner),
+        Err(_) => manner::complain(&mut rt.stderr(), b"trace"),
     }
 }
 
 // The run itself turns an unknown part away, whatever memory it is lent.
-fn trace(rt: &HostRuntime, lenient: bool) {
+fn trace(rt: &HostRuntime, manner: Manner) {
     let mut stdin = rt.stdin();
-    let number = input::header::read_part_number(&mut stdin);
-    let words = input::memory::words(number);
-    let mut memory = [0u32; input::memory::MOST];
-    chunks::work_all(&mut stdin, rt, lenient, number, &mut memory[..words]);
+    let number = header::read_part_number(&mut stdin);
+    let words = memory::words(number);
+    let mut memory = [0u32; memory::MOST];
+    let part = LentPart {
+        manner,
+        number,
+        memory: &mut memory[..words],
+    };
+    chunks::work_all(part, &mut stdin, rt);
 }

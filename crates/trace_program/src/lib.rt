@@ -1,0 +1,5 @@
+// The trace programs' loop over the chunks of a trace, whichever model they work.
+#![tactic(auto)]
+
+pub mod chunks;
+pub mod traced;
