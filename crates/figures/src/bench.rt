@@ -1,86 +1,217 @@
-// One part on the bench, clocked by the rows of a scene.
-use super::{print, rows};
+// One part on the bench, clocked by the steps of a scene.
+ghost use Rattle.std.specs.Prelude.{◌≤◌};
+
+use super::steps::{Handed, Label, Made, Step};
 use chip::state::State;
-use fifo::sample::{Outcome, Sampled};
-use std::io;
+use counts::part::Part;
+use fifo::sample::Outcome;
+use pins::record::Pins;
+use std::{fmt, io};
 
-// From power-up. The names stand in the order of the rows that are shown, each with an end of line.
-pub(crate) fn play(
-    out: &impl Print,
-    part: u32,
-    fwft: bool,
-    scene: &[u64],
-    names: &[u8],
-    memory: &mut [u32],
-) -> io::Result<()> {
-    let mut now = power_up();
-    let mut words: u32 = 0;
-    let mut name: usize = 0;
-    let mut left = scene.len();
-    while left > 0 {
-        let row = scene[scene.len() - left];
-        let times = rows::times_of(row, part, fwft, words);
-        now = step(
-            part,
-            now,
-            row,
-            rows::record_of(row, fwft, words),
-            times,
-            memory,
-        );
-        words = rows::words_after(row, words, times);
-        let outcome = now.outcome;
-        name = print::print_row(
+#[derive(Clone, Copy, PartialEq, Eq)]
+pub(crate) enum Mode {
+    Standard,
+    Fwft,
+}
+
+impl fmt::Display for Mode {
+    fn fmt<W: fmt::Write>(&self, f: &mut fmt::Formatter<W>) -> fmt::Result {
+        match self {
+            Mode::Standard => f.write_str("standard"),
+            Mode::Fwft => f.write_str("fwft"),
+        }
+    }
+}
+
+// `outcome` is that of the last sample; `word` is the number of the last word written since the reset.
+#[derive(Drop)]
+pub(crate) struct Bench<'a, P: Print> {
+    pub(crate) out: &'a P,
+    pub(crate) part: Part,
+    pub(crate) mode: Mode,
+    pub(crate) memory: &'a mut [u32],
+    state: State,
+    outcome: Option<Outcome>,
+    word: u16,
+}
+
+impl<'a, P: Print> Bench<'a, P> {
+    pub(crate) fn new(out: &'a P, part: Part, mode: Mode, memory: &'a mut [u32]) -> Self {
+        Bench {
             out,
-            rows::part_of(row, part),
-            fwft,
-            row,
-            words,
-            names,
-            name,
-            outcome,
-        )?;
-        left -= 1;
+            part,
+            mode,
+            memory,
+            state: chip::reset::power_up(),
+            outcome: None,
+            word: 0,
+        }
     }
-    Ok(())
-}
 
-fn power_up() -> Sampled {
-    Sampled {
-        outcome: Outcome::Refused(0),
-        state: chip::reset::power_up(),
+    // Parts and paper authority.
+    pub(crate) fn depth(&self) -> u32
+        ensures least { 8192 ≤ result }
+        ensures most { result ≤ 16384 }
+    {
+        match self.part {
+            Part::Idt72V255LA => 8192,
+            Part::Idt72V265LA => 16384,
+        }
+    }
+
+    // In FWFT the output register holds a word beside the memory (the two sides, at HF).
+    pub(crate) fn beside(&self) -> u32
+        ensures { result ≤ 1 }
+    {
+        match self.mode {
+            Mode::Standard => 0,
+            Mode::Fwft => 1,
+        }
+    }
+
+    // The bits of both offsets together (Offsets).
+    pub(crate) fn serial_bits(&self) -> u32
+        ensures { 26 ≤ result }
+    {
+        match self.part {
+            Part::Idt72V255LA => 26,
+            Part::Idt72V265LA => 28,
+        }
+    }
+
+    // A scene, from power-up.
+    pub(crate) fn play(&mut self, scene: &[Step]) -> io::Result<()> {
+        self.power_up();
+        self.play_on(scene)
+    }
+
+    pub(crate) fn power_up(&mut self) {
+        self.state = chip::reset::power_up();
+        self.outcome = None;
+        self.word = 0;
+    }
+
+    pub(crate) fn play_on(&mut self, scene: &[Step]) -> io::Result<()> {
+        for &step in scene {
+            self.make(step);
+            if let (Some(label), Some(outcome)) = (step.shown, self.outcome) {
+                self.show(step.handed, label, outcome)?;
+            }
+        }
+        Ok(())
+    }
+
+    // In a Master Reset with the level that selects the mode.
+    fn make(&mut self, step: Step) {
+        let mut pins = step.pins;
+        if !pins.mrs {
+            pins.fwft = self.mode == Mode::Fwft;
+            self.word = 0;
+        }
+        match step.made {
+            Made::Once => self.sample(pins, step.handed),
+            Made::FromLow(times) => self.clock(times, pins, step.handed),
+            Made::Writing(times) => self.write(times, pins, step.handed),
+        }
+    }
+
+    fn clock(&mut self, times: u32, pins: Pins, handed: Handed) {
+        for _ in 0..times {
+            self.rise(pins, handed);
+        }
+    }
+
+    fn write(&mut self, times: u32, pins: Pins, handed: Handed) {
+        for _ in 0..times {
+            self.word = self.word.wrapping_add(1);
+            let word = u32::from(self.word);
+            self.rise(Pins { d: word, ..pins }, handed);
+        }
+    }
+
+    fn rise(&mut self, pins: Pins, handed: Handed) {
+        let low = Pins {
+            wclk: false,
+            rclk: false,
+            ..pins
+        };
+        self.sample(low, handed);
+        self.sample(pins, handed);
+    }
+
+    fn sample(&mut self, pins: Pins, handed: Handed) {
+        let number = handed.number_of(self.part);
+        let state = handed.state_of(self.state);
+        let words = handed.words_of(self.memory.len());
+        let sampled = fifo::sample::sample(
+            number,
+            record_of(pins),
+            state,
+            &mut self.memory[..words],
+        );
+        self.state = sampled.state;
+        self.outcome = Some(sampled.outcome);
+    }
+
+    // A figure's line: part, mode and name of the case, a blank, and the outcome.
+    fn show(&self, handed: Handed, label: Label, outcome: Outcome) -> io::Result<()> {
+        let number = handed.number_of(self.part);
+        let mode = self.mode;
+        print!(self.out; "{number}-{mode}-{label} ")?;
+        match outcome {
+            Outcome::Taken(answer) => println!(self.out; "{answer:06X}"),
+            Outcome::Refused(refusal) => println!(self.out; "refused {refusal}"),
+        }
     }
 }
 
-fn step(
-    part: u32,
-    before: Sampled,
-    row: u64,
-    record: u32,
-    times: u32,
-    memory: &mut [u32],
-) -> Sampled {
-    let mut now = before;
-    let mut half = rows::first_half(row);
-    let end = std::num::wrapping_add_u32(times, times);
-    while half < end {
-        now = sample(part, row, rows::half_step(record, half), now, memory);
-        half += 1;
+impl Handed {
+    pub(crate) fn number_of(self, part: Part) -> u32 {
+        match (self, part) {
+            (Handed::OtherPart, _) => 256,
+            (_, Part::Idt72V255LA) => 255,
+            (_, Part::Idt72V265LA) => 265,
+        }
     }
-    now
+
+    fn state_of(self, left: State) -> State {
+        let mut state = left;
+        if let Handed::Output(output) = self {
+            state.read.output = output;
+        }
+        state
+    }
+
+    fn words_of(self, words: usize) -> usize
+        ensures { result ≤ words }
+    {
+        match self {
+            Handed::ShortMemory => words.saturating_sub(1),
+            _ => words,
+        }
+    }
 }
 
-fn sample(part: u32, row: u64, word: u32, before: Sampled, memory: &mut [u32]) -> Sampled {
-    let number = rows::part_of(row, part);
-    let state = with_output(before.state, row);
-    let words = rows::memory_of(row, memory.len());
-    fifo::sample::sample(number, word, state, &mut memory[..words])
-}
-
-fn with_output(state: State, row: u64) -> State {
-    let mut with = state;
-    let mut read = state.read;
-    read.output = rows::output_of(row, read.output);
-    with.read = read;
-    with
+// As Trace sample lays it out.
+fn record_of(pins: Pins) -> u32 {
+    let levels = [
+        pins.mrs,
+        pins.prs,
+        pins.wclk,
+        pins.rclk,
+        pins.wen,
+        pins.ren,
+        pins.ld,
+        pins.sen,
+        pins.rt,
+        pins.fwft,
+        pins.oe,
+        pins.skew.write,
+        pins.skew.read,
+        pins.unsettled,
+    ];
+    let high = levels
+        .iter()
+        .fold(0, |bits: u32, &level| bits << 1 | u32::from(level));
+    high << 18 | pins.d
 }

@@ -1,59 +1,36 @@
 // Bench figures, the part headed More: the flags at their limits, with offsets of 127. Both sides of a limit are shown, so
 // many words in memory and one more.
-use super::{bench, rows};
+use super::bench::Bench;
+use super::steps;
 use std::io;
 
-const LIMITS: [u64; 19] = [
-    rows::RESET + rows::SHOWN,
-    rows::RESET,
-    rows::WRITE + rows::HALF + rows::BESIDE,
-    rows::SETTLE + rows::NUMBERED,
-    rows::RESET,
-    rows::WRITE + rows::HALF + rows::BESIDE + 1,
-    rows::SETTLE + rows::NUMBERED,
-    rows::RESET,
-    rows::WRITE + rows::BELOW_DEPTH + rows::BESIDE + 128,
-    rows::SETTLE + rows::NUMBERED,
-    rows::RESET,
-    rows::WRITE + rows::BELOW_DEPTH + rows::BESIDE + 127,
-    rows::SETTLE + rows::NUMBERED,
-    rows::RESET,
-    rows::WRITE + rows::BESIDE + 127,
-    rows::SETTLE + rows::NUMBERED,
-    rows::RESET,
-    rows::WRITE + rows::BESIDE + 128,
-    rows::SETTLE + rows::NUMBERED,
-];
-
-const FULL: [u64; 3] = [
-    rows::RESET,
-    rows::WRITE + rows::BELOW_DEPTH + rows::SHOWN,
-    rows::RUN_RCLK + 1000 + rows::SHOWN,
-];
-
-pub(crate) fn print_limits(
-    out: &impl Print,
-    part: u32,
-    fwft: bool,
-    memory: &mut [u32],
-) -> io::Result<()> {
-    bench::play(
-        out,
-        part,
-        fwft,
-        &LIMITS,
-        b"reset\nhf\nhf\npaf\npaf\npae\npae\n",
-        memory,
-    )
+pub(crate) fn print_limits(bench: &mut Bench<impl Print>) -> io::Result<()> {
+    let beside = bench.beside();
+    let half = bench.depth() / 2 + beside;
+    let full = bench.depth() + beside;
+    bench.play(&[steps::reset().shown("reset")])?;
+    for (flag, words) in [
+        ("hf", half),
+        ("hf", half + 1),
+        ("paf", full - 128),
+        ("paf", full - 127),
+        ("pae", 127 + beside),
+        ("pae", 128 + beside),
+    ] {
+        bench.play_on(&[
+            steps::reset(),
+            steps::write(words),
+            steps::settle().numbered(flag, words),
+        ])?;
+    }
+    Ok(())
 }
 
-pub(crate) fn print_full(out: &impl Print, part: u32, memory: &mut [u32]) -> io::Result<()> {
-    bench::play(
-        out,
-        part,
-        false,
-        &FULL,
-        b"full-rclk-still\nfull-rclk-running\n",
-        memory,
-    )
+pub(crate) fn print_full(bench: &mut Bench<impl Print>) -> io::Result<()> {
+    let depth = bench.depth();
+    bench.play(&[
+        steps::reset(),
+        steps::write(depth).shown("full-rclk-still"),
+        steps::run_rclk(1000).shown("full-rclk-running"),
+    ])
 }

@@ -5,36 +5,38 @@ mod bench;
 mod limits;
 mod listing;
 mod outputs;
-mod print;
 mod retransmits;
-mod rows;
+mod steps;
 mod traces;
 mod turned_away;
 mod width;
 
+use bench::{Bench, Mode};
+use counts::part::Part;
 use std::io;
 
 fn main(rt: HostRuntime) -> io::Result<()> {
     let mut small = [0u32; 8192];
     let mut large = [0u32; 16384];
     listing::print_listing(&rt, &mut small)?;
-    print_part(&rt, 255, &mut small)?;
-    print_part(&rt, 265, &mut large)
+    print_part(&rt, Part::Idt72V255LA, &mut small)?;
+    print_part(&rt, Part::Idt72V265LA, &mut large)
 }
 
-fn print_part(out: &impl Print, part: u32, memory: &mut [u32]) -> io::Result<()> {
-    print_mode(out, part, false, memory)?;
-    print_mode(out, part, true, memory)?;
-    limits::print_full(out, part, memory)?;
-    turned_away::print_refusals(out, part, memory)?;
-    traces::print_runs(out, part, memory)
+fn print_part(out: &impl Print, part: Part, memory: &mut [u32]) -> io::Result<()> {
+    print_mode(&mut Bench::new(out, part, Mode::Standard, memory))?;
+    print_mode(&mut Bench::new(out, part, Mode::Fwft, memory))?;
+    let mut bench = Bench::new(out, part, Mode::Standard, memory);
+    limits::print_full(&mut bench)?;
+    turned_away::print_refusals(&mut bench)?;
+    traces::print_runs(&mut bench)
 }
 
-fn print_mode(out: &impl Print, part: u32, fwft: bool, memory: &mut [u32]) -> io::Result<()> {
-    limits::print_limits(out, part, fwft, memory)?;
-    retransmits::print_retransmits(out, part, fwft, memory)?;
-    retransmits::print_falls(out, part, fwft, memory)?;
-    outputs::print_outputs(out, part, fwft, memory)?;
-    width::print_past_width(out, part, fwft, memory)?;
-    width::print_rounds(out, part, fwft, memory)
+fn print_mode(bench: &mut Bench<impl Print>) -> io::Result<()> {
+    limits::print_limits(bench)?;
+    retransmits::print_retransmits(bench)?;
+    retransmits::print_falls(bench)?;
+    outputs::print_outputs(bench)?;
+    width::print_past_width(bench)?;
+    width::print_rounds(bench)
 }

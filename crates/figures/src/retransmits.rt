@@ -1,147 +1,107 @@
 // Retransmit, and how many words it may follow (What is turned away, 9).
-use super::{bench, rows};
+use super::bench::Bench;
+use super::steps;
 use std::io;
 
-const MOST: [u64; 15] = [
-    rows::RESET,
-    rows::SETTLE,
-    rows::RETRANSMIT + rows::NUMBERED,
-    rows::RESET,
-    rows::WRITE + 1,
-    rows::SETTLE,
-    rows::RETRANSMIT + rows::NUMBERED,
-    rows::RESET,
-    rows::WRITE + rows::BELOW_DEPTH + rows::BESIDE + 2,
-    rows::SETTLE,
-    rows::RETRANSMIT + rows::NUMBERED,
-    rows::RESET,
-    rows::WRITE + rows::BELOW_DEPTH + rows::BESIDE + 1,
-    rows::SETTLE,
-    rows::RETRANSMIT + rows::NUMBERED,
-];
+pub(crate) fn print_retransmits(bench: &mut Bench<impl Print>) -> io::Result<()> {
+    print_most(bench)?;
+    print_waiting(bench)
+}
+
+fn print_most(bench: &mut Bench<impl Print>) -> io::Result<()> {
+    let full = bench.depth() + bench.beside();
+    bench.power_up();
+    for words in [0, 1, full - 2, full - 1] {
+        bench.play_on(&[
+            steps::reset(),
+            steps::write(words),
+            steps::settle(),
+            steps::retransmit().numbered("retransmit", words),
+        ])?;
+    }
+    Ok(())
+}
 
 // One word more than the offset, three of them read: PAE is LOW until the retransmit is worked out.
-const WAITING: [u64; 10] = [
-    rows::RESET,
-    rows::WRITE + 128,
-    rows::SETTLE,
-    rows::READ + 3 + rows::SHOWN,
-    rows::ENABLES_HIGH,
-    rows::RETRANSMIT + rows::SHOWN,
-    rows::RUN_RCLK + 1 + rows::SHOWN,
-    rows::RUN_RCLK + 1 + rows::SHOWN,
-    rows::RUN_RCLK + 1 + rows::SHOWN,
-    rows::READ + 1 + rows::SHOWN,
-];
+fn print_waiting(bench: &mut Bench<impl Print>) -> io::Result<()> {
+    bench.play(&[
+        steps::reset(),
+        steps::write(128),
+        steps::settle(),
+        steps::read(3).shown("three-read"),
+        steps::enables_high(),
+        steps::retransmit().numbered("rises-after-retransmit", 0),
+        steps::run_rclk(1).numbered("rises-after-retransmit", 1),
+        steps::run_rclk(1).numbered("rises-after-retransmit", 2),
+        steps::run_rclk(1).numbered("rises-after-retransmit", 3),
+        steps::read(1).shown("read-again"),
+    ])
+}
+
+pub(crate) fn print_falls(bench: &mut Bench<impl Print>) -> io::Result<()> {
+    print_after_enable(bench)?;
+    print_at_fall(bench)?;
+    print_in_reset(bench)
+}
 
 // Enables before retransmit: RT falls right after a write, with a second rise at the same LOW, and right after a read; each time again
 // with one sample between.
-const AFTER_ENABLE: [u64; 12] = [
-    rows::RESET,
-    rows::WRITE + 3,
-    rows::RETRANSMIT + rows::SHOWN,
-    rows::RETRANSMIT + rows::RAW + rows::SHOWN,
-    rows::ENABLES_HIGH,
-    rows::RETRANSMIT + rows::SHOWN,
-    rows::RUN_RCLK + 3,
-    rows::READ + 1,
-    rows::RETRANSMIT + rows::SHOWN,
-    rows::ENABLES_HIGH,
-    rows::RETRANSMIT + rows::SHOWN,
-    rows::RUN_RCLK + 3 + rows::SHOWN,
-];
+fn print_after_enable(bench: &mut Bench<impl Print>) -> io::Result<()> {
+    bench.play(&[
+        steps::reset(),
+        steps::write(3),
+        steps::retransmit().shown("fall-after-write"),
+        steps::retransmit().at_once().shown("fall-not-ended"),
+        steps::enables_high(),
+        steps::retransmit().shown("fall-later"),
+        steps::run_rclk(3),
+        steps::read(1),
+        steps::retransmit().shown("fall-after-read"),
+        steps::enables_high(),
+        steps::retransmit().shown("fall-later-again"),
+        steps::run_rclk(3).shown("word-after-fall"),
+    ])
+}
 
 // An enable LOW at the fall, and one LOW between the fall and the rise.
-const AT_FALL: [u64; 10] = [
-    rows::RESET,
-    rows::WRITE + 3,
-    rows::ENABLES_HIGH,
-    rows::RT_AND_REN_LOW,
-    rows::RETRANSMIT + rows::SHOWN,
-    rows::WRITE_RT_LOW + 1 + rows::SHOWN,
-    rows::ENABLES_HIGH,
-    rows::RT_LOW,
-    rows::WRITE_RT_LOW + 1 + rows::SHOWN,
-    rows::RETRANSMIT + rows::SHOWN,
-];
+fn print_at_fall(bench: &mut Bench<impl Print>) -> io::Result<()> {
+    bench.play(&[
+        steps::reset(),
+        steps::write(3),
+        steps::enables_high(),
+        steps::rt_and_ren_low(),
+        steps::retransmit().shown("fall-with-read-enable"),
+        steps::write_rt_low(1).shown("write-after-fall"),
+        steps::enables_high(),
+        steps::rt_low(),
+        steps::write_rt_low(1).shown("write-between"),
+        steps::retransmit().shown("retransmit-after-write-between"),
+    ])
+}
 
 // A fall in a reset is one like any other, and no reset forgets one. Where the fall was unclean, a sample comes after the reset that would be
 // a clean fall if it were forgotten.
-const IN_RESET: [u64; 20] = [
-    rows::RESET_RT_AND_WEN_LOW,
-    rows::RT_LOW,
-    rows::WRITE_RT_LOW + 3,
-    rows::RETRANSMIT + rows::SHOWN,
-    rows::ENABLES_HIGH,
-    rows::PARTIAL_RESET_RT_LOW,
-    rows::WRITE_RT_LOW + 3,
-    rows::RETRANSMIT + rows::SHOWN,
-    rows::ENABLES_HIGH,
-    rows::RUN_WCLK + 2,
-    rows::WRITE + 1,
-    rows::RT_LOW,
-    rows::PARTIAL_RESET_RT_LOW,
-    rows::RT_LOW,
-    rows::WRITE_RT_LOW + 3,
-    rows::RETRANSMIT + rows::SHOWN,
-    rows::RESET_RT_LOW,
-    rows::RT_LOW,
-    rows::WRITE_RT_LOW + 3,
-    rows::RETRANSMIT + rows::SHOWN,
-];
-
-pub(crate) fn print_retransmits(
-    out: &impl Print,
-    part: u32,
-    fwft: bool,
-    memory: &mut [u32],
-) -> io::Result<()> {
-    bench::play(
-        out,
-        part,
-        fwft,
-        &MOST,
-        b"retransmit\nretransmit\nretransmit\nretransmit\n",
-        memory,
-    )?;
-    bench::play(
-        out,
-        part,
-        fwft,
-        &WAITING,
-        b"three-read\nrises-after-retransmit-0\nrises-after-retransmit-1\nrises-after-retransmit-2\nrises-after-retransmit-3\nread-again\n",
-        memory,
-    )
-}
-
-pub(crate) fn print_falls(
-    out: &impl Print,
-    part: u32,
-    fwft: bool,
-    memory: &mut [u32],
-) -> io::Result<()> {
-    bench::play(
-        out,
-        part,
-        fwft,
-        &AFTER_ENABLE,
-        b"fall-after-write\nfall-not-ended\nfall-later\nfall-after-read\nfall-later-again\nword-after-fall\n",
-        memory,
-    )?;
-    bench::play(
-        out,
-        part,
-        fwft,
-        &AT_FALL,
-        b"fall-with-read-enable\nwrite-after-fall\nwrite-between\nretransmit-after-write-between\n",
-        memory,
-    )?;
-    bench::play(
-        out,
-        part,
-        fwft,
-        &IN_RESET,
-        b"fall-in-master-reset\nfall-in-partial-reset\nfall-before-partial-reset\nfall-before-master-reset\n",
-        memory,
-    )
+fn print_in_reset(bench: &mut Bench<impl Print>) -> io::Result<()> {
+    bench.play(&[
+        steps::reset_rt_and_wen_low(),
+        steps::rt_low(),
+        steps::write_rt_low(3),
+        steps::retransmit().shown("fall-in-master-reset"),
+        steps::enables_high(),
+        steps::partial_reset_rt_low(),
+        steps::write_rt_low(3),
+        steps::retransmit().shown("fall-in-partial-reset"),
+        steps::enables_high(),
+        steps::run_wclk(2),
+        steps::write(1),
+        steps::rt_low(),
+        steps::partial_reset_rt_low(),
+        steps::rt_low(),
+        steps::write_rt_low(3),
+        steps::retransmit().shown("fall-before-partial-reset"),
+        steps::reset_rt_low(),
+        steps::rt_low(),
+        steps::write_rt_low(3),
+        steps::retransmit().shown("fall-before-master-reset"),
+    ])
 }

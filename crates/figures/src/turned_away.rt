@@ -1,176 +1,134 @@
 // What is turned away: a sample for each number that one can get, and the answer to the next one. No LOW sample comes in between: the
 // refused one must not have moved RCLK's last level either.
-use super::{bench, rows};
+use super::bench::Bench;
+use super::steps::{self, Handed, Step};
 use std::io;
 
-const WORD: u64 = rows::PUT + 0x41 * rows::PIN;
+pub(crate) fn print_refusals(bench: &mut Bench<impl Print>) -> io::Result<()> {
+    print_calls(bench)?;
+    print_no_reset(bench)?;
+    print_pins(bench)?;
+    print_not_seen(bench)?;
+    print_unknown_word(bench)?;
+    print_no_word_asked(bench)
+}
 
-const TRIED: u64 = rows::RAW + rows::SHOWN;
+fn word() -> Step {
+    steps::put(0x41)
+}
 
-const NEXT: u64 = rows::READ + 1 + TRIED;
+fn next() -> Step {
+    steps::read(1).at_once()
+}
 
-// What the caller hands in. Before each a word that the read side sees, and both clocks LOW: a rise of RCLK can read it.
-const BY_CALL: [u64; 18] = [
-    rows::RESET,
-    WORD,
-    rows::SETTLE,
-    rows::IDLE + 1,
-    NEXT + rows::OTHER_PART,
-    NEXT,
-    rows::RESET,
-    WORD,
-    rows::SETTLE,
-    rows::IDLE + 1,
-    NEXT + rows::SHORT_MEMORY,
-    NEXT,
-    rows::RESET,
-    WORD,
-    rows::SETTLE,
-    rows::IDLE + 1,
-    NEXT + rows::WIDE_OUTPUT,
-    NEXT + rows::MENDED_OUTPUT,
-];
+// A word that the read side sees, and both clocks LOW: a rise of RCLK can read it.
+fn print_refusal(
+    bench: &mut Bench<impl Print>,
+    number: u32,
+    refused: Step,
+    next: Step,
+) -> io::Result<()> {
+    bench.play_on(&[
+        steps::reset(),
+        word(),
+        steps::settle(),
+        steps::idle(1),
+        refused.at_once().numbered("refusal", number),
+        next.numbered("next-after-refusal", number),
+    ])
+}
 
-const NO_RESET: [u64; 2] = [NEXT, rows::RESET + rows::SHOWN];
+// What the caller hands in.
+fn print_calls(bench: &mut Bench<impl Print>) -> io::Result<()> {
+    bench.power_up();
+    print_refusal(bench, 1, next().handing(Handed::OtherPart), next())?;
+    print_refusal(bench, 2, next().handing(Handed::ShortMemory), next())?;
+    // Wider than its bits, and put right again.
+    print_refusal(
+        bench,
+        3,
+        next().handing(Handed::Output(1 << 18)),
+        next().handing(Handed::Output(0)),
+    )
+}
 
-const BY_PINS: [u64; 21] = [
-    rows::RESET,
-    WORD,
-    rows::SETTLE,
-    rows::IDLE + 1,
-    rows::TWO_ENABLES + TRIED,
-    NEXT,
-    rows::RESET,
-    WORD,
-    rows::SETTLE,
-    rows::IDLE + 1,
-    rows::ZERO + 1 + TRIED,
-    NEXT,
-    rows::RESET,
-    WORD,
-    rows::SETTLE,
-    rows::IDLE + 1,
-    rows::RETRANSMIT_AND_READ + TRIED,
-    NEXT,
-    rows::RESET,
-    rows::RETRANSMIT + TRIED,
-    NEXT,
-];
+fn print_no_reset(bench: &mut Bench<impl Print>) -> io::Result<()> {
+    bench.play(&[
+        next().numbered("refusal", 5),
+        steps::reset().numbered("next-after-refusal", 5),
+    ])
+}
+
+fn print_pins(bench: &mut Bench<impl Print>) -> io::Result<()> {
+    bench.power_up();
+    print_refusal(bench, 6, steps::two_enables(), next())?;
+    print_refusal(bench, 7, steps::zeros(1), next())?;
+    print_refusal(bench, 8, steps::retransmit_and_read(), next())?;
+    bench.play_on(&[
+        steps::reset(),
+        steps::retransmit().at_once().numbered("refusal", 9),
+        next().numbered("next-after-refusal", 9),
+    ])
+}
 
 // The next sample is the first rise after the retransmit. Without it, two rises of WCLK later the write is taken.
-const NOT_SEEN: [u64; 13] = [
-    rows::RESET,
-    WORD,
-    rows::SETTLE,
-    rows::RETRANSMIT,
-    rows::IDLE + 1,
-    WORD + TRIED,
-    NEXT,
-    rows::RESET,
-    WORD,
-    rows::SETTLE,
-    rows::RETRANSMIT,
-    rows::RUN_WCLK + 2,
-    WORD + rows::SHOWN,
-];
+fn print_not_seen(bench: &mut Bench<impl Print>) -> io::Result<()> {
+    bench.play(&[
+        steps::reset(),
+        word(),
+        steps::settle(),
+        steps::retransmit(),
+        steps::idle(1),
+        word().at_once().numbered("refusal", 10),
+        next().numbered("next-after-refusal", 10),
+        steps::reset(),
+        word(),
+        steps::settle(),
+        steps::retransmit(),
+        steps::run_wclk(2),
+        word().shown("write-after-seen"),
+    ])
+}
 
 // D still moving where a word is asked for: a write, one while the part is full, a parallel load, and a write after a retransmit
 // that is not yet seen and then is.
-const UNKNOWN_WORD: [u64; 18] = [
-    rows::RESET,
-    WORD,
-    rows::SETTLE,
-    rows::IDLE + 1,
-    WORD + rows::UNSETTLED + TRIED,
-    NEXT,
-    rows::RESET,
-    rows::WRITE + rows::BELOW_DEPTH,
-    WORD + rows::UNSETTLED + rows::SHOWN,
-    rows::RESET,
-    rows::LOAD + rows::UNSETTLED + rows::SHOWN,
-    rows::READ_OFFSET + rows::SHOWN,
-    WORD,
-    rows::ENABLES_HIGH,
-    rows::RETRANSMIT,
-    WORD + rows::UNSETTLED + rows::SHOWN,
-    rows::RUN_WCLK + 2,
-    WORD + rows::UNSETTLED + rows::SHOWN,
-];
+fn print_unknown_word(bench: &mut Bench<impl Print>) -> io::Result<()> {
+    let depth = bench.depth();
+    bench.power_up();
+    print_refusal(bench, 12, word().unsettled(), next())?;
+    bench.play_on(&[
+        steps::reset(),
+        steps::write(depth),
+        word().unsettled().shown("unsettled-while-full"),
+        steps::reset(),
+        steps::load(0).unsettled().shown("unsettled-load"),
+        steps::read_offset().shown("offset-after-unsettled-load"),
+        word(),
+        steps::enables_high(),
+        steps::retransmit(),
+        word().unsettled().shown("unsettled-before-seen"),
+        steps::run_wclk(2),
+        word().unsettled().shown("unsettled-once-seen"),
+    ])
+}
 
 // And where none is: before the Master Reset, in both resets, at a rise of WCLK with WEN HIGH, without a rise, at a read and
 // with a serial bit.
-const NO_WORD_ASKED: [u64; 10] = [
-    WORD + rows::UNSETTLED + rows::SHOWN,
-    rows::RESET_AND_WRITE + rows::UNSETTLED + rows::SHOWN,
-    rows::PARTIAL_RESET_AND_WRITE + rows::UNSETTLED + rows::SHOWN,
-    rows::RUN_WCLK + rows::UNSETTLED + 1 + rows::SHOWN,
-    rows::IDLE + rows::UNSETTLED + 1 + rows::SHOWN,
-    WORD,
-    rows::SETTLE,
-    rows::READ + rows::UNSETTLED + 1 + rows::SHOWN,
-    rows::RESET_SERIAL,
-    rows::ZERO + rows::UNSETTLED + 1 + rows::SHOWN,
-];
-
-pub(crate) fn print_refusals(out: &impl Print, part: u32, memory: &mut [u32]) -> io::Result<()> {
-    print_calls(out, part, memory)?;
-    print_pins(out, part, memory)?;
-    print_unsettled(out, part, memory)
-}
-
-fn print_calls(out: &impl Print, part: u32, memory: &mut [u32]) -> io::Result<()> {
-    bench::play(
-        out,
-        part,
-        false,
-        &BY_CALL,
-        b"refusal-1\nnext-after-refusal-1\nrefusal-2\nnext-after-refusal-2\nrefusal-3\nnext-after-refusal-3\n",
-        memory,
-    )?;
-    bench::play(
-        out,
-        part,
-        false,
-        &NO_RESET,
-        b"refusal-5\nnext-after-refusal-5\n",
-        memory,
-    )
-}
-
-fn print_pins(out: &impl Print, part: u32, memory: &mut [u32]) -> io::Result<()> {
-    bench::play(
-        out,
-        part,
-        false,
-        &BY_PINS,
-        b"refusal-6\nnext-after-refusal-6\nrefusal-7\nnext-after-refusal-7\nrefusal-8\nnext-after-refusal-8\nrefusal-9\nnext-after-refusal-9\n",
-        memory,
-    )?;
-    bench::play(
-        out,
-        part,
-        false,
-        &NOT_SEEN,
-        b"refusal-10\nnext-after-refusal-10\nwrite-after-seen\n",
-        memory,
-    )
-}
-
-fn print_unsettled(out: &impl Print, part: u32, memory: &mut [u32]) -> io::Result<()> {
-    bench::play(
-        out,
-        part,
-        false,
-        &UNKNOWN_WORD,
-        b"refusal-12\nnext-after-refusal-12\nunsettled-while-full\nunsettled-load\noffset-after-unsettled-load\nunsettled-before-seen\nunsettled-once-seen\n",
-        memory,
-    )?;
-    bench::play(
-        out,
-        part,
-        false,
-        &NO_WORD_ASKED,
-        b"unsettled-before-reset\nunsettled-in-master-reset\nunsettled-in-partial-reset\nunsettled-not-asked\nunsettled-no-rise\nunsettled-read\nunsettled-serial-bit\n",
-        memory,
-    )
+fn print_no_word_asked(bench: &mut Bench<impl Print>) -> io::Result<()> {
+    bench.play(&[
+        word().unsettled().shown("unsettled-before-reset"),
+        steps::reset_and_write()
+            .unsettled()
+            .shown("unsettled-in-master-reset"),
+        steps::partial_reset_and_write()
+            .unsettled()
+            .shown("unsettled-in-partial-reset"),
+        steps::run_wclk(1).unsettled().shown("unsettled-not-asked"),
+        steps::idle(1).unsettled().shown("unsettled-no-rise"),
+        word(),
+        steps::settle(),
+        steps::read(1).unsettled().shown("unsettled-read"),
+        steps::reset_serial(),
+        steps::zeros(1).unsettled().shown("unsettled-serial-bit"),
+    ])
 }

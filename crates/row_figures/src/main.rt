@@ -21,73 +21,125 @@ const TRANSFER: [u8; 7] = [0xCF, 0xC0, 0x00, 0x00, 0x80, 0xFF, 0xFF];
 
 const SPARE: [u8; 7] = [0xCF, 0xC0, 0x00, 0x00, 0x40, 0xFF, 0xFF];
 
+// Of one part by itself, in fall-through: the Master Reset, a word written, both clocks LOW, a rise of RCLK, and one with RT LOW.
+const OWN_RESET: u32 = 0x4FD80000;
+
+const OWN_WRITE: u32 = 0xE7D80041;
+
+const OWN_LOW: u32 = 0xCFD80000;
+
+const OWN_RISE: u32 = 0xDFD80000;
+
+const OWN_RETRANSMIT: u32 = 0xDF580000;
+
+// Reset into Standard.
+const IN_STANDARD: [u32; 1] = [0x4F980000];
+
+// A word written and a retransmit that its write side has not seen, WCLK LOW.
+const UNSEEN: [u32; 4] = [OWN_RESET, OWN_WRITE, OWN_LOW, OWN_RETRANSMIT];
+
+// A word written, which stands in the output register after four rises of RCLK, both clocks LOW.
+const READY: [u32; 11] = [
+    OWN_RESET, OWN_WRITE, OWN_LOW, OWN_RISE, OWN_LOW, OWN_RISE, OWN_LOW, OWN_RISE, OWN_LOW,
+    OWN_RISE, OWN_LOW,
+];
+
+// What is handed in, and the name of its line.
+#[derive(Clone, Copy)]
+struct Case<'a> {
+    name: &'static str,
+    part: u32,
+    record: &'a [u8],
+    row: Row,
+}
+
+impl<'a> Case<'a> {
+    fn new(name: &'static str, record: &'a [u8], row: Row) -> Self {
+        Case {
+            name,
+            part: 255,
+            record,
+            row,
+        }
+    }
+
+    fn of_part(self, part: u32) -> Self {
+        Case { part, ..self }
+    }
+
+    fn print(self, out: &impl Print) -> io::Result<()> {
+        let mut memory = [0u32; 16384];
+        let worked = chain_runs::sample::sample(self.part, self.record, self.row, &mut memory);
+        let outcome = chain_runs::sample::outcome_of(worked);
+        let number = fifo::outcome::number_of(outcome);
+        println!(out; "{} {number:02}", self.name)
+    }
+}
+
 fn main(rt: HostRuntime) -> io::Result<()> {
-    let mut memory = [0u32; 16384];
     let powered = rows::row::power_up(2);
+    let mut memory = [0u32; 16384];
     let sampled = chain_runs::sample::sample(255, &RESET, powered, &mut memory);
     let reset = chain_runs::sample::row_of(sampled);
-    let mut own = [0u32; 8192];
-    print_early(&rt, reset, standard(&mut own))?;
+    print_early(&rt, reset)?;
     print_records(&rt, powered, reset)?;
-    print_unseen(&rt, reset, unseen(&mut own), ready(&mut own))
+    print_unseen(&rt, reset)
 }
 
 // Before any record: 1, 13, 2 and 3; and 4 for another length.
-fn print_early(out: &impl Print, row: Row, standard: State) -> io::Result<()> {
-    print(out, b"taken", 255, &WRITE, row)?;
-    print(out, b"part", 256, &WRITE, row)?;
-    print(out, b"few", 255, &WRITE, counted(row, 1))?;
-    print(out, b"many", 255, &WRITE, counted(row, 9))?;
-    print(out, b"memory", 265, &WRITE, row)?;
-    print(
+fn print_early(out: &impl Print, row: Row) -> io::Result<()> {
+    let wide = with_first(row, wide_output(row.states[0]));
+    let mixed = with_second(row, left_by(&IN_STANDARD));
+    print_all(
         out,
-        b"output",
-        255,
-        &WRITE,
-        with_first(row, wide_output(row.states[0])),
-    )?;
-    print(out, b"standard", 255, &WRITE, with_second(row, standard))?;
-    print(out, b"length", 255, &WRITE[..6], row)
+        &[
+            Case::new("taken", &WRITE, row),
+            Case::new("part", &WRITE, row).of_part(256),
+            Case::new("few", &WRITE, Row { count: 1, ..row }),
+            Case::new("many", &WRITE, Row { count: 9, ..row }),
+            Case::new("memory", &WRITE, row).of_part(265),
+            Case::new("output", &WRITE, wide),
+            Case::new("standard", &WRITE, mixed),
+            Case::new("length", &WRITE[..6], row),
+        ],
+    )
 }
 
 fn print_records(out: &impl Print, powered: Row, row: Row) -> io::Result<()> {
-    print(out, b"spare", 255, &SPARE, row)?;
-    print(out, b"unstarted", 255, &WRITE, powered)?;
-    print(
+    let half = with_second(row, powered.states[0]);
+    print_all(
         out,
-        b"half-started",
-        255,
-        &RETRANSMIT,
-        with_second(row, powered.states[0]),
-    )?;
-    print(out, b"retransmit", 255, &RETRANSMIT, row)?;
-    print(out, b"into-standard", 255, &STANDARD, row)?;
-    print(out, b"unsettled", 255, &MOVING, row)
+        &[
+            Case::new("spare", &SPARE, row),
+            Case::new("unstarted", &WRITE, powered),
+            Case::new("half-started", &RETRANSMIT, half),
+            Case::new("retransmit", &RETRANSMIT, row),
+            Case::new("into-standard", &STANDARD, row),
+            Case::new("unsettled", &MOVING, row),
+        ],
+    )
 }
 
 // 10: a write asked of a part that has not seen its retransmit, by a transfer to the second part and by the record to the first, where 12 would come
 // after it.
-fn print_unseen(out: &impl Print, row: Row, unseen: State, ready: State) -> io::Result<()> {
-    let second = with_first(with_second(row, unseen), ready);
+fn print_unseen(out: &impl Print, row: Row) -> io::Result<()> {
+    let unseen = left_by(&UNSEEN);
+    let second = with_first(with_second(row, unseen), left_by(&READY));
     let first = with_first(row, unseen);
-    print(out, b"unseen", 255, &TRANSFER, second)?;
-    print(out, b"unseen-first", 255, &MOVING, first)
+    print_all(
+        out,
+        &[
+            Case::new("unseen", &TRANSFER, second),
+            Case::new("unseen-first", &MOVING, first),
+        ],
+    )
 }
 
-fn print(out: &impl Print, name: &[u8], part: u32, record: &[u8], row: Row) -> io::Result<()> {
-    let mut memory = [0u32; 16384];
-    let worked = chain_runs::sample::sample(part, record, row, &mut memory);
-    let outcome = chain_runs::sample::outcome_of(worked);
-    let number = fifo::outcome::number_of(outcome);
-    let digits = [b' ', b'0' + number / 10 % 10, b'0' + number % 10, b'\n'];
-    out.write_all(name)?;
-    out.write_all(&digits)
-}
-
-fn counted(row: Row, count: usize) -> Row {
-    let mut r = row;
-    r.count = count;
-    r
+fn print_all(out: &impl Print, cases: &[Case]) -> io::Result<()> {
+    for case in cases {
+        case.print(out)?;
+    }
+    Ok(())
 }
 
 fn with_first(row: Row, s: State) -> Row {
@@ -100,52 +152,17 @@ fn with_second(row: Row, s: State) -> Row {
 
 fn wide_output(s: State) -> State {
     let mut changed = s;
-    let mut read = s.read;
-    read.output = 262144;
-    changed.read = read;
+    changed.read.output = 1 << 18;
     changed
 }
 
-// Of one part by itself: reset into Standard.
-fn standard(memory: &mut [u32]) -> State {
-    after(0x4F980000, chip::reset::power_up(), memory)
-}
-
-// Of one part by itself: a word written and a retransmit that its write side has not seen, WCLK LOW.
-fn unseen(memory: &mut [u32]) -> State {
-    let written = written(memory);
-    let still = after(0xCFD80000, written, memory);
-    after(0xDF580000, still, memory)
-}
-
-// Of one part by itself: a word written, which stands in the output register after four rises of RCLK, both clocks LOW.
-fn ready(memory: &mut [u32]) -> State {
-    let shown = shown(memory);
-    after(0xCFD80000, shown, memory)
-}
-
-fn shown(memory: &mut [u32]) -> State {
-    let written = written(memory);
-    let twice = read_clock_twice(written, memory);
-    read_clock_twice(twice, memory)
-}
-
-fn read_clock_twice(s: State, memory: &mut [u32]) -> State {
-    let once = read_clock(s, memory);
-    read_clock(once, memory)
-}
-
-fn read_clock(s: State, memory: &mut [u32]) -> State {
-    let low = after(0xCFD80000, s, memory);
-    after(0xDFD80000, low, memory)
-}
-
-fn written(memory: &mut [u32]) -> State {
-    let reset = after(0x4FD80000, chip::reset::power_up(), memory);
-    after(0xE7D80041, reset, memory)
-}
-
-fn after(record: u32, s: State, memory: &mut [u32]) -> State {
-    let sampled = fifo::sample::sample(255, record, s, memory);
-    sampled.state
+// By a part 255 by itself, from power-up.
+fn left_by(records: &[u32]) -> State {
+    let mut memory = [0u32; 8192];
+    let mut s = chip::reset::power_up();
+    for &record in records {
+        let sampled = fifo::sample::sample(255, record, s, &mut memory);
+        s = sampled.state;
+    }
+    s
 }
