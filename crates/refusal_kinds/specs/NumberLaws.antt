@@ -1,5 +1,7 @@
 -- No two refusals have one number, and none has 0: a promise of the number is one of the refusal itself.
-use Rattle.std.specs.Prelude.{◌≡◌, ◌≢◌, Option, None, Some}
+use Rattle.std.specs.Prelude.{◌≡◌, ◌≢◌, cond, eqb, Option, None, Some}
+use Rattle.std.specs.Option.{option_or}
+use borrow.Author.Tests.{ne_eqb}
 use Rattle.std.proofs.Common.{refl, sym, ap, ◌∙◌, arith}
 use Rattle.refusal_kinds.specs.declared.Refusal.{Refusal}
 use Rattle.refusal_kinds.specs.declared.Refusal.TheVariants.{UnknownPart, WrongLength, UnfitState, UnreadableRecord, NoMasterReset, SeveralEnables, MethodNotSelected, UncleanRetransmit, RetransmitTooFewOrMany, WriteBeforeRetransmitSeen, PinsDiffer, UnsettledData, WrongPartCount, NotInChain}
@@ -50,3 +52,8 @@ number_some PinsDiffer e = absurd (omega (arith, e))
 number_some UnsettledData e = absurd (omega (arith, e))
 number_some WrongPartCount e = absurd (omega (arith, e))
 number_some NotInChain e = absurd (omega (arith, e))
+
+-- of two the one that stands first
+pub number_of_or : (a b : Option Refusal) → number_of (option_or a b) ≡ cond (eqb (number_of a) 0) (number_of b) (number_of a)
+number_of_or None b = refl
+number_of_or (Some r) b = simp (ne_eqb (number r) 0 (number_some r))
