@@ -1,5 +1,5 @@
 -- No two refusals have one number, and none has 0: a promise of the number is one of the refusal itself.
-use Rattle.std.specs.Prelude.{◌≡◌, ◌≢◌, cond, eqb, Option, None, Some}
+use Rattle.std.specs.Prelude.{ℕ, ◌≡◌, ◌≢◌, cond, eqb, Option, None, Some}
 use Rattle.std.specs.Option.{option_or}
 use borrow.Author.Tests.{ne_eqb}
 use Rattle.std.proofs.Common.{refl, sym, ap, ◌∙◌, arith}
@@ -27,6 +27,9 @@ own_refusal NotInChain = refl
 pub own_number : (r : Option Refusal) → of_number (number_of r) ≡ r
 own_number None = refl
 own_number (Some r) = own_refusal r
+
+pub by_number : {r : Option Refusal} {n : ℕ} → number_of r ≡ n → r ≡ of_number n
+by_number e = sym (own_number _) ∙ ap of_number e
 
 pub number_of_injective : (a b : Option Refusal) → number_of a ≡ number_of b → a ≡ b
 number_of_injective a b e = sym (own_number a) ∙ ap of_number e ∙ own_number b
