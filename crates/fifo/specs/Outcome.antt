@@ -1,5 +1,5 @@
 -- What a sample gives, in the table's words: taken with its packed answer, or refused with its number.
-use Rattle.std.specs.Prelude.{ℕ, ◌≡◌, Result, Ok, Err}
+use Rattle.std.specs.Prelude.{ℕ, Result, Ok, Err}
 use Rattle.chip.specs.declared.state.State.{State}
 use Rattle.refusal_kinds.specs.declared.Refusal.{Refusal}
 use Rattle.refusal_kinds.specs.Numbers.{number}

@@ -3,9 +3,8 @@ use Rattle.std.specs.Prelude.{ℕ, ◌≡◌, Result, Ok, Err}
 use Rattle.std.proofs.Common.{sym, ap, arith}
 use Rattle.refusal_kinds.specs.declared.Refusal.{Refusal}
 use Rattle.refusal_kinds.specs.NumberLaws.{number_injective}
-use Rattle.refusal_kinds.specs.Numbers.{number}
 use Rattle.fifo.specs.declared.sample.Sampled as code
-use Rattle.fifo.specs.Outcome.{Outcome, Refused, Sampled, Taken, in_numbers, sampled_in_numbers}
+use Rattle.fifo.specs.Outcome.{Refused, Sampled, Taken, in_numbers, sampled_in_numbers}
 
 same_number : {a b : ℕ} → Refused a ≡ Refused b → a ≡ b
 same_number e = cc
