@@ -16,8 +16,8 @@ use Rattle.chip.specs.State.{passes}
 use Rattle.counts.specs.declared.part.Part.{Part}
 use Rattle.counts.specs.Part.{depth_of, number_of}
 use Rattle.counts.specs.PartLaws.{own_number}
-use Rattle.buffers.specs.declared.verdict.Verdict.{Verdict}
-use Rattle.buffers.specs.declared.verdict.Verdict.TheVariants.{Work, Refuse}
+use Rattle.buffers.specs.Verdict.{Verdict}
+use Rattle.buffers.specs.Verdict.{Work, Refuse}
 use Rattle.fifo_c.specs.AsSample.{AsSample, call_is_sample}
 use Rattle.numerals.specs.Bytes.{words_in}
 use Rattle.numerals.specs.BytesLaws.{put_length}

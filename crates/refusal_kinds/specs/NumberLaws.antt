@@ -1,11 +1,11 @@
 -- No two refusals have one number, and none has 0: a promise of the number is one of the refusal itself.
-use Rattle.std.specs.Prelude.{ℕ, ◌≡◌, ◌≢◌, cond, eqb, Option, None, Some}
+use Rattle.std.specs.Prelude.{ℕ, ◌≡◌, ◌≢◌, cond, eqb, Option, None, Some, Result, Ok, Err}
 use Rattle.std.specs.Option.{option_or}
 use borrow.Author.Tests.{ne_eqb}
 use Rattle.std.proofs.Common.{refl, sym, ap, ◌∙◌, arith}
 use Rattle.refusal_kinds.specs.declared.Refusal.{Refusal}
 use Rattle.refusal_kinds.specs.declared.Refusal.TheVariants.{UnknownPart, WrongLength, UnfitState, UnreadableRecord, NoMasterReset, SeveralEnables, MethodNotSelected, UncleanRetransmit, RetransmitTooFewOrMany, WriteBeforeRetransmitSeen, PinsDiffer, UnsettledData, WrongPartCount, NotInChain}
-use Rattle.refusal_kinds.specs.Numbers.{number, number_of, of_number}
+use Rattle.refusal_kinds.specs.Numbers.{code_of, number, number_of, of_number}
 
 own_refusal : (r : Refusal) → of_number (number r) ≡ Some r
 own_refusal UnknownPart = refl
@@ -55,6 +55,12 @@ number_some PinsDiffer e = absurd (omega (arith, e))
 number_some UnsettledData e = absurd (omega (arith, e))
 number_some WrongPartCount e = absurd (omega (arith, e))
 number_some NotInChain e = absurd (omega (arith, e))
+
+pub code_of_injective : (a b : Result (Unit {0}) Refusal) → code_of a ≡ code_of b → a ≡ b
+code_of_injective (Ok done) (Ok also) e = refl
+code_of_injective (Ok done) (Err b) e = absurd (number_some b (sym e))
+code_of_injective (Err a) (Ok done) e = absurd (number_some a e)
+code_of_injective (Err a) (Err b) e = ap Err (number_injective a b e)
 
 -- of two the one that stands first
 pub number_of_or : (a b : Option Refusal) → number_of (option_or a b) ≡ cond (eqb (number_of a) 0) (number_of b) (number_of a)

@@ -1,5 +1,5 @@
 -- What is turned away: the number of each refusal in the table, 0 where there is none.
-use Rattle.std.specs.Prelude.{ℕ, List, [], ◌∷◌, Option, None, Some, get_or}
+use Rattle.std.specs.Prelude.{ℕ, List, [], ◌∷◌, Option, None, Some, Result, Ok, Err, get_or}
 use Rattle.refusal_kinds.specs.declared.Refusal.{Refusal}
 use Rattle.refusal_kinds.specs.declared.Refusal.TheVariants.{UnknownPart, WrongLength, UnfitState, UnreadableRecord, NoMasterReset, SeveralEnables, MethodNotSelected, UncleanRetransmit, RetransmitTooFewOrMany, WriteBeforeRetransmitSeen, PinsDiffer, UnsettledData, WrongPartCount, NotInChain}
 
@@ -22,6 +22,11 @@ number NotInChain = 14
 abbrev pub number_of : Option Refusal → ℕ
 number_of None = 0
 number_of (Some refusal) = number refusal
+
+-- of what C calls, by its code
+abbrev pub code_of : Result (Unit {0}) Refusal → ℕ
+code_of (Ok done) = 0
+code_of (Err refusal) = number refusal
 
 -- and back: the refusals by their numbers, of which 0 is none, as a number without a refusal is
 abbrev pub in_order : List (Option Refusal)

@@ -1,7 +1,7 @@
 // Why a sample, a run or a call is turned away: a name for each number of the table.
 #![tactic(auto)]
 
-ghost use Rattle.refusal_kinds.specs.Numbers.{number, number_of};
+ghost use Rattle.refusal_kinds.specs.Numbers.{code_of, number, number_of};
 ghost use Rattle.std.specs.Prelude.{◌≡◌};
 
 #[derive(Clone, Copy, Debug, PartialEq, Eq)]
@@ -40,7 +40,7 @@ impl Refusal {
     }
 }
 
-// 0 where nothing is turned away.
+// 0 where nothing is turned away, in both.
 pub fn number_of(refusal: Option<Refusal>) -> u8
     ensures { result ≡ number_of refusal }
 {
@@ -48,4 +48,10 @@ pub fn number_of(refusal: Option<Refusal>) -> u8
         None => 0,
         Some(refusal) => refusal.number(),
     }
+}
+
+pub fn code_of(done: Result<(), Refusal>) -> u8
+    ensures { result ≡ code_of done }
+{
+    number_of(done.err())
 }
