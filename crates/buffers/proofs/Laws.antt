@@ -5,8 +5,7 @@ use mathlib.Core.List.{List}
 use mathlib.Core.Path.{◌≡◌, refl, subst, ◌∙◌}
 use lib.ListN.{length}
 use native.Mathlib.Omega.{arith}
-use Rattle.buffers.specs.Verdict.{Verdict}
-use Rattle.buffers.specs.Verdict.{Refuse}
+use Rattle.buffers.specs.Verdict.{Refuse, Verdict}
 use Rattle.buffers.specs.Memory.{Within, word_size}
 use Rattle.buffers.specs.Verdict.{judged, on_record, on_state, roomy}
 use Rattle.chip.specs.declared.advance.Store.{Store}

@@ -2,8 +2,7 @@
 use Rattle.std.specs.Prelude.{ℕ, ◌+◌, ◌*◌, ◌<◌, Bool, true, false, cond, ◌&&◌, List, ◌≡◌, refl, eqb, length, Result, Ok, Err}
 use Rattle.std.proofs.Math.Bool.{and-eq-true_iff}
 use Rattle.std.proofs.Common.{sym, ap, subst, eqb-true, arith}
-use Rattle.buffers.specs.Verdict.{Verdict}
-use Rattle.buffers.specs.Verdict.{Work, Refuse}
+use Rattle.buffers.specs.Verdict.{Refuse, Verdict, Work}
 use Rattle.buffers.specs.Memory.{Within, memory_bytes, word_size}
 use Rattle.buffers.specs.Verdict.{in_numbers, Lengths, Ready, answer_bytes, judged, on_record, on_state, roomy}
 use Rattle.chip.specs.declared.advance.Store.{Store}

@@ -5,8 +5,7 @@ use mathlib.Core.Path.{◌≡◌, refl, sym, ap, ◌∙◌}
 use lib.ListN.{length}
 use borrow.Author.Rules.{rules}
 use borrow.Author.Tests.{eq-eqb, ne_eqb}
-use Rattle.buffers.specs.Verdict.{Verdict}
-use Rattle.buffers.specs.Verdict.{Work, Refuse}
+use Rattle.buffers.specs.Verdict.{Refuse, Verdict, Work}
 use Rattle.buffers.specs.Memory.{memory_bytes}
 use Rattle.buffers.specs.Verdict.{Ready, judged, number_of}
 use Rattle.buffers.specs.VerdictLaws.{cleared}

@@ -10,9 +10,7 @@ use Rattle.counts.specs.declared.part.Lookup.{Lookup}
 use Rattle.counts.specs.declared.part.Lookup.TheVariants.{Known, Unknown}
 use Rattle.counts.specs.declared.part.Part.{Part}
 use Rattle.counts.specs.Part.{part_of}
-use Rattle.fifo.specs.declared.sample.Outcome.{Outcome}
-use Rattle.fifo.specs.declared.sample.Outcome.TheVariants.{Taken, Refused}
-use Rattle.fifo.specs.declared.sample.Sampled.{Sampled}
+use Rattle.fifo.specs.Outcome.{Outcome, Refused, Sampled, Taken}
 use Rattle.fifo.specs.NumberLaws.{step_numbered}
 use Rattle.fifo.specs.Sample.{After, Gives, answers_after, number_of, stepped}
 use Rattle.fifo.specs.SampleLaws.{step_length, step_widths}
