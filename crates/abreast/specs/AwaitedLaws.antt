@@ -4,7 +4,7 @@ use Rattle.std.proofs.Math.Bool.{and-eq-true_iff}
 use Rattle.std.proofs.Common.{true≢false, sym, subst, ◌∙◌}
 use Rattle.chip.specs.Reset.{selected_mode}
 use Rattle.counts.specs.declared.part.Part.{Part}
-use Rattle.fifo.specs.declared.sample.Outcome.TheVariants.{Taken}
+use Rattle.fifo.specs.Outcome.{Taken}
 use Rattle.joint.specs.Composite.{composite_of, level}
 use Rattle.halves.specs.Two.{Two}
 use Rattle.pins.specs.Record.{bit}

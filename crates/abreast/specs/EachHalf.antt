@@ -5,9 +5,9 @@ use Rattle.std.proofs.Common.{sym, ap, subst, ◌∙◌}
 use Rattle.std.proofs.Math.Path.{refl}
 use Rattle.counts.specs.declared.part.Part.{Part}
 use Rattle.counts.specs.Part.{depth_of, number_of}
-use Rattle.fifo.specs.declared.sample.Outcome.TheVariants as fifo
+use Rattle.fifo.specs.Outcome as fifo
 use Rattle.notes.specs.Fold.{started}
-use Rattle.pair.specs.declared.sample.Outcome.TheVariants.{Taken}
+use Rattle.pair.specs.Outcome.{Taken}
 use Rattle.pair.specs.Sample as pair
 use Rattle.halves.specs.declared.state.Halves.{Halves}
 use Rattle.halves.specs.State.{PoweredUp}

@@ -5,8 +5,7 @@ use Rattle.chip.specs.Reset.{selected_mode}
 use Rattle.counts.specs.declared.part.Part.{Part}
 use Rattle.counts.specs.Part.{number_of}
 use Rattle.joint.specs.declared.composite.Composite.{Composite}
-use Rattle.pair.specs.declared.sample.Outcome.{Outcome}
-use Rattle.pair.specs.declared.sample.Outcome.TheVariants.{Taken, Refused}
+use Rattle.pair.specs.Outcome.{Outcome, Refused, Taken}
 use Rattle.halves.specs.declared.state.Halves.{Halves}
 use Rattle.joint.specs.Composite.{composite_of}
 use Rattle.pair.specs.Sample.{After, is_taken, pair_sampled}

@@ -8,11 +8,10 @@ use borrow.Author.Tests.{eq-eqb}
 use Rattle.counts.specs.declared.part.Part.{Part}
 use Rattle.counts.specs.Part.{depth_of}
 use Rattle.counts.specs.PartLaws.{own_number}
-use Rattle.fifo.specs.declared.sample.Outcome.TheVariants as fifo
+use Rattle.fifo.specs.Outcome as fifo
 use Rattle.fifo.specs.Sample as single
 use Rattle.fifo.specs.Sample.{is_depth, record_refusal}
-use Rattle.pair.specs.declared.sample.Outcome.{Outcome}
-use Rattle.pair.specs.declared.sample.Outcome.TheVariants.{Taken, Refused}
+use Rattle.pair.specs.Outcome.{Outcome, Refused, Taken}
 use Rattle.halves.specs.declared.state.Halves.{Halves}
 use Rattle.joint.specs.Refuse.{same_pins}
 use Rattle.halves.specs.Refuse.{pair_refusal}

@@ -5,10 +5,9 @@ use mathlib.Core.List.{List}
 use mathlib.Core.Path.{◌≡◌, refl, subst, ◌∙◌}
 use lib.ListN.{length}
 use native.Mathlib.Omega.{arith}
-use Rattle.std.specs.Prelude.{None, Option, Some, ℕ}
+use Rattle.std.specs.Prelude.{ℕ, Option, Some, None}
 use Rattle.chip.specs.declared.advance.Put.{Put}
-use Rattle.buffers.specs.declared.verdict.Verdict.{Verdict}
-use Rattle.buffers.specs.declared.verdict.Verdict.TheVariants.{Refuse}
+use Rattle.buffers.specs.Verdict.{Refuse, Verdict}
 use Rattle.buffers.specs.Memory.{Within, word_size}
 use Rattle.buffers.specs.Verdict.{judged, on_record, on_state, roomy}
 use Rattle.chip.specs.declared.state.State.{State}

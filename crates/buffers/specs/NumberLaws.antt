@@ -4,7 +4,7 @@ use Rattle.std.specs.Prelude.{ℕ, true, false, List, ◌≢◌, ◌≡◌, refl
 use Rattle.std.proofs.Math.Bool.{and-false}
 use Rattle.std.proofs.Common.{◌∙◌}
 use borrow.Author.Tests.{eq-eqb, ne_eqb}
-use Rattle.buffers.specs.declared.verdict.Verdict.TheVariants.{Work, Refuse}
+use Rattle.buffers.specs.Verdict.{Work, Refuse}
 use Rattle.buffers.specs.Memory.{memory_bytes}
 use Rattle.buffers.specs.Verdict.{judged, on_record, on_state}
 use Rattle.chip.specs.State.{passes}

@@ -1,13 +1,22 @@
 -- What is turned away, for the C call: 1 to 4 on what is handed in.
-use Rattle.std.specs.Prelude.{ℕ, Bool, true, cond, ◌&&◌, List, ◌≡◌, eqb, length}
-use Rattle.buffers.specs.declared.verdict.Verdict.{Verdict}
-use Rattle.buffers.specs.declared.verdict.Verdict.TheVariants.{Work, Refuse}
+use Rattle.std.specs.Prelude.{ℕ, Bool, true, cond, ◌&&◌, List, ◌≡◌, eqb, length, Result, Ok, Err}
 use Rattle.buffers.specs.Memory.{memory_bytes, word_size}
 use Rattle.chip.specs.State.{passes}
 use Rattle.counts.specs.declared.part.Part.{Part}
 use Rattle.counts.specs.Part.{by_part, part_of}
 use Rattle.pins.specs.Trace.{word_at}
+use Rattle.refusal_kinds.specs.declared.Refusal.{Refusal}
+use Rattle.refusal_kinds.specs.Numbers.{number}
 use Rattle.spelling.specs.Spelling.{spells, state_bytes, state_in}
+
+-- a record of four bytes for a part and a state that have passed their tests, or a refusal's number
+pub data Verdict : Type 0 where
+  Work : Part → ℕ → Verdict
+  Refuse : ℕ → Verdict
+
+abbrev pub in_numbers : Result (Part × ℕ) Refusal → Verdict
+in_numbers (Ok asked) = Work asked.0 asked.1
+in_numbers (Err refusal) = Refuse (number refusal)
 
 abbrev pub answer_bytes : ℕ
 answer_bytes = 3

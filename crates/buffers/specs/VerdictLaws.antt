@@ -1,12 +1,11 @@
 -- The C call: what stands when a record is to be worked.
-use Rattle.std.specs.Prelude.{ℕ, ◌+◌, ◌*◌, ◌<◌, Bool, true, false, cond, ◌&&◌, List, ◌≡◌, refl, eqb, length, Option, Some, None}
+use Rattle.std.specs.Prelude.{ℕ, ◌+◌, ◌*◌, ◌<◌, Bool, true, false, cond, ◌&&◌, List, ◌≡◌, refl, eqb, length, Result, Ok, Err, Option, Some, None}
 use Rattle.chip.specs.declared.advance.Put.{Put}
 use Rattle.std.proofs.Math.Bool.{and-eq-true_iff}
-use Rattle.std.proofs.Common.{subst, eqb-true, arith}
-use Rattle.buffers.specs.declared.verdict.Verdict.{Verdict}
-use Rattle.buffers.specs.declared.verdict.Verdict.TheVariants.{Work, Refuse}
+use Rattle.std.proofs.Common.{sym, ap, subst, eqb-true, arith}
+use Rattle.buffers.specs.Verdict.{Refuse, Verdict, Work}
 use Rattle.buffers.specs.Memory.{Within, memory_bytes, word_size}
-use Rattle.buffers.specs.Verdict.{Lengths, Ready, answer_bytes, judged, on_record, on_state, roomy}
+use Rattle.buffers.specs.Verdict.{in_numbers, Lengths, Ready, answer_bytes, judged, on_record, on_state, roomy}
 use Rattle.chip.specs.Laws.{Placed}
 use Rattle.chip.specs.State.{passes}
 use Rattle.counts.specs.declared.part.Part.{Part}
@@ -14,7 +13,28 @@ use Rattle.counts.specs.Laws.{place_below}
 use Rattle.counts.specs.Part.{by_part, depth_of, part_of, place_bits}
 use Rattle.counts.specs.Round.{place_of}
 use Rattle.pins.specs.Trace.{word_at}
+use Rattle.refusal_kinds.specs.declared.Refusal.{Refusal}
+use Rattle.refusal_kinds.specs.NumberLaws.{number_injective}
 use Rattle.spelling.specs.Spelling.{spells, state_bytes, state_in}
+
+same_number : {a b : ℕ} → Refuse a ≡ Refuse b → a ≡ b
+same_number e = cc
+
+same_part : {p q : Part} {x y : ℕ} → Work p x ≡ Work q y → p ≡ q
+same_part e = cc
+
+same_word : {p q : Part} {x y : ℕ} → Work p x ≡ Work q y → x ≡ y
+same_word e = cc
+
+not_both : {part : Part} {x number : ℕ} → Work part x ≡ Refuse number → ⊥
+not_both e = let z : ◌≡◌ {A = ℕ} 0 1 = cc in absurd (omega arith)
+
+-- nothing is lost in numbers: two verdicts that are the same there are the same
+pub in_numbers_injective : (a b : Result (Part × ℕ) Refusal) → in_numbers a ≡ in_numbers b → a ≡ b
+in_numbers_injective (Ok a) (Ok b) e = λ i. Ok (same_part e i, same_word e i)
+in_numbers_injective (Ok a) (Err b) e = absurd (not_both e)
+in_numbers_injective (Err a) (Ok b) e = absurd (not_both (sym e))
+in_numbers_injective (Err a) (Err b) e = ap Err (number_injective a b (same_number e))
 
 pub roomy_lengths : (part : Part) (state memory answer : ℕ) → roomy part state memory answer ≡ true → Lengths part state memory answer
 roomy_lengths part state memory answer e =

@@ -3,21 +3,29 @@ ghost use Rattle.chip.specs.Answer.{answer_of};
 ghost use Rattle.chip.specs.Quiet.{held};
 ghost use Rattle.buffers.specs.Verdict.{Ready, answer_bytes};
 ghost use Rattle.call_work.specs.Work.{Gives, taken, worked};
+ghost use Rattle.refusal_kinds.specs.Numbers.{code_of};
 ghost use Rattle.spelling.specs.Spelling.{spelling, spells, state_bytes, state_in};
 ghost use Rattle.pins.specs.Record.{pins_of};
 ghost use Rattle.pins.specs.Answer.{put_answer};
 ghost use Rattle.std.specs.Prelude.{length, true, ◌≡◌};
 
 use counts::part::Part;
+use refusal_kinds::Refusal;
 
 // A sample is taken, held or turned away; every test is made before anything is written.
-pub fn work(part: Part, word: u32, state: &mut [u8], memory: &mut [u8], answer: &mut [u8]) -> u32
+pub fn work(
+    part: Part,
+    word: u32,
+    state: &mut [u8],
+    memory: &mut [u8],
+    answer: &mut [u8],
+) -> Result<(), Refusal>
     requires { Ready part state.old (length memory.old) (length answer.old) }
-    ensures { Gives (worked part word state.old memory.old answer.old) result state.new memory.new answer.new }
+    ensures { Gives (worked part word state.old memory.old answer.old) (code_of result) state.new memory.new answer.new }
 {
     if buffers::verdict::is_still(word, state) {
         hold(part, word, state, answer);
-        0
+        Ok(())
     } else {
         take_or_turn_away(part, word, state, memory, answer)
     }
@@ -45,15 +53,15 @@ fn take_or_turn_away(
     state: &mut [u8],
     memory: &mut [u8],
     answer: &mut [u8],
-) -> u32
+) -> Result<(), Refusal>
     requires { Ready part state.old (length memory.old) (length answer.old) }
-    ensures { Gives (worked part word state.old memory.old answer.old) result state.new memory.new answer.new }
+    ensures { Gives (worked part word state.old memory.old answer.old) (code_of result) state.new memory.new answer.new }
 {
-    let number = buffers::verdict::refuse(part, word, state);
-    if number == 0 {
-        take(part, word, state, memory, answer);
+    if let Some(refusal) = buffers::verdict::refuse(part, word, state) {
+        return Err(refusal);
     }
-    number
+    take(part, word, state, memory, answer);
+    Ok(())
 }
 
 fn take(part: Part, word: u32, state: &mut [u8], memory: &mut [u8], answer: &mut [u8])

@@ -7,7 +7,7 @@ use Rattle.rows.specs.Row.{put_back, row_of}
 use Rattle.rows.specs.Step.{After}
 use Rattle.chain_work.specs.Work.{Ended, ran_of}
 use Rattle.chip.specs.declared.state.State.{State}
-use Rattle.fifo.specs.declared.sample.Outcome.{Outcome}
+use Rattle.fifo.specs.Outcome.{Outcome}
 use Rattle.notes.specs.Fold.{started}
 
 abbrev pub sampled : ℕ → List ℕ → List State → List ℕ → After

@@ -9,7 +9,7 @@ use Rattle.rows.specs.declared.row.Row.{Row}
 use Rattle.chain_work.specs.declared.work.Ran.{Ran}
 use Rattle.rows.specs.Row.{put_back, row_of}
 use Rattle.chip.specs.declared.state.State.{State}
-use Rattle.fifo.specs.declared.sample.Outcome.{Outcome}
+use Rattle.fifo.specs.Outcome.{Outcome}
 use Rattle.chain.specs.Chain.{Runs, Samples}
 
 pub samples : (number : ℕ) (bytes : List ℕ) (states : List State) (memory : List ℕ) {a : Worked} {words : List ℕ} → SamplesRow number bytes (row_of states) memory a words

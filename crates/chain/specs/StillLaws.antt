@@ -24,7 +24,7 @@ use Rattle.chip.specs.declared.state.State.{State}
 use Rattle.counts.specs.declared.part.Part.{Part}
 use Rattle.counts.specs.Either.{either}
 use Rattle.counts.specs.Part.{depth_of}
-use Rattle.fifo.specs.declared.sample.Outcome.TheVariants.{Refused}
+use Rattle.fifo.specs.Outcome.{Refused}
 use Rattle.fifo.specs.Sample.{is_taken}
 use Rattle.links.specs.declared.record.Links.{Links}
 use Rattle.links.specs.Record.{plain}

@@ -4,7 +4,7 @@ use Rattle.std.specs.Prelude.{ℕ, Bool, List, ◌≡◌}
 use Rattle.std.proofs.Common.{sym, ◌∙◌}
 use Rattle.chain_runs.specs.declared.run.Report.{Report}
 use Rattle.chip.specs.declared.state.State.{State}
-use Rattle.fifo.specs.declared.sample.Outcome.{Outcome}
+use Rattle.fifo.specs.Outcome.{Outcome}
 use Rattle.chain.specs.Chain.{Runs, Samples}
 
 pub sample_unique : (number : ℕ) (bytes : List ℕ) (states : List State) (memory : List ℕ) (a b : Outcome) (s t : List State) (m n : List ℕ)

@@ -3,8 +3,7 @@ use Rattle.std.specs.Prelude.{ℕ, true, cond, List, ◌≡◌, eqb, length}
 use Rattle.rows.specs.declared.row.Row.{Row}
 use Rattle.chain_work.specs.Records.{links_at}
 use Rattle.rows.specs.Step.{After, chain_stepped, turned_away}
-use Rattle.fifo.specs.declared.sample.Outcome.{Outcome}
-use Rattle.fifo.specs.declared.sample.Outcome.TheVariants.{Refused, Taken}
+use Rattle.fifo.specs.Outcome.{Outcome, Refused, Taken}
 use Rattle.chain_runs.specs.declared.sample.Worked.{Worked}
 use Rattle.chain_runs.specs.Test.{by_test, test_of}
 

@@ -11,8 +11,7 @@ use Rattle.rows.specs.Step.{After, Moving, chain_answer, chain_refusal, chain_st
 use Rattle.rows.specs.StepLaws.{step_still, step_taken}
 use Rattle.chain_work.specs.Work.{Ended, Progress, at_end, ran_of, turn, worked}
 use Rattle.counts.specs.declared.part.Part.{Part}
-use Rattle.fifo.specs.declared.sample.Outcome.{Outcome}
-use Rattle.fifo.specs.declared.sample.Outcome.TheVariants.{Refused, Taken}
+use Rattle.fifo.specs.Outcome.{Outcome, Refused, Taken}
 use Rattle.fifo.specs.Sample.{number_of}
 use Rattle.links.specs.declared.record.Links.{Links}
 use Rattle.notes.specs.Fold.{Ends, ended, folded, noted, started, stops}

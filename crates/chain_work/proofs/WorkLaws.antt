@@ -9,8 +9,7 @@ use lib.ListN.{length}
 use borrow.Author.Tests.{eqb-false, eqb-true}
 use native.Mathlib.Omega.{arith}
 use Rattle.counts.specs.declared.part.Part.{Part}
-use Rattle.fifo.specs.declared.sample.Outcome.{Outcome}
-use Rattle.fifo.specs.declared.sample.Outcome.TheVariants.{Taken, Refused}
+use Rattle.fifo.specs.Outcome.{Outcome, Refused, Taken}
 use Rattle.fifo.specs.Sample.{answers_after, number_of}
 use Rattle.links.specs.declared.record.Links.{Links}
 use Rattle.links.specs.Record.{links_of}

@@ -4,8 +4,7 @@ use Rattle.std.specs.Prelude.{ℕ, ◌+◌, ◌*◌, ◌/◌, ◌%◌, ◌≤◌
 use Rattle.std.proofs.Common.{◌∙◌, get_or-append-add, ne_eqb, arith}
 use Rattle.std.proofs.Math.ListN.{get_or-append}
 use Rattle.counts.specs.declared.part.Part.{Part}
-use Rattle.fifo.specs.declared.sample.Outcome.{Outcome}
-use Rattle.fifo.specs.declared.sample.Outcome.TheVariants.{Taken, Refused}
+use Rattle.fifo.specs.Outcome.{Outcome, Refused, Taken}
 use Rattle.fifo.specs.Sample.{answers_after}
 use Rattle.links.specs.declared.record.Links.{Links}
 use Rattle.links.specs.Record.{links_of}

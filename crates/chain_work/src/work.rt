@@ -58,7 +58,7 @@ pub fn work(
             return end_at(index, accepted, ending(record), r);
         };
         let x = links::record::read_links(head, more);
-        let number = rows::judging::refusal(part, x, r);
+        let number = refusal_kinds::number_of(rows::judging::refusal(part, x, r));
         if notes::number::is_stop(lenient, number) {
             return end_at(index, accepted, number, r);
         }

@@ -13,7 +13,7 @@ use Rattle.counts.specs.declared.part.Part.{Part}
 use Rattle.counts.specs.Part.{part_of}
 use Rattle.pins.specs.declared.record.Pins.{Pins}
 use Rattle.pins.specs.Record.{pins_of}
-use Rattle.fifo.specs.declared.sample.Sampled.{Sampled}
+use Rattle.fifo.specs.Outcome.{Sampled}
 use Rattle.fifo.specs.NumberLaws.{Numbered, sample_numbered, step_numbered}
 use Rattle.fifo.specs.Sample.{After, Gives, Samples, Steps, is_depth, number_of, record_refusal, sampled, stepped, taken, turned_away}
 

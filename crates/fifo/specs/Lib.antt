@@ -1,4 +1,6 @@
 pub mod NumberLaws
+pub mod Outcome
+pub mod OutcomeLaws
 pub mod Sample
 pub mod SampleLaws
 pub mod Still

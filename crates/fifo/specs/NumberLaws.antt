@@ -13,7 +13,7 @@ use Rattle.counts.specs.declared.part.Part.TheVariants.{Idt72V255LA, Idt72V265LA
 use Rattle.counts.specs.Part.{by_part, depth_of, part_of}
 use Rattle.pins.specs.Record.{pins_of}
 use Rattle.refusals.specs.Refuse.{refusal_of}
-use Rattle.fifo.specs.declared.sample.Outcome.TheVariants.{Refused}
+use Rattle.fifo.specs.Outcome.{Refused}
 use Rattle.fifo.specs.Sample.{After, answers_after, fetched_for, is_depth, is_taken, number_of, record_refusal, sampled, sample_refusal, stepped, taken, took, turned_away}
 
 -- Parts and paper authority: each part's number, and its depth

@@ -11,9 +11,7 @@ use Rattle.counts.specs.Round.{place_of}
 use Rattle.pins.specs.declared.record.Pins.{Pins}
 use Rattle.pins.specs.Answer.{put_answer}
 use Rattle.pins.specs.Record.{pins_of}
-use Rattle.fifo.specs.declared.sample.Outcome.{Outcome}
-use Rattle.fifo.specs.declared.sample.Outcome.TheVariants.{Taken, Refused}
-use Rattle.fifo.specs.declared.sample.Sampled.{Sampled}
+use Rattle.fifo.specs.Outcome.{Outcome, Refused, Sampled, Taken}
 
 -- What an outcome stands for: its number, 0 where the sample is taken
 abbrev pub number_of : Outcome → ℕ

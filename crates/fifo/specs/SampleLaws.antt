@@ -10,7 +10,7 @@ use Rattle.chip.specs.Widths.{widths_stay}
 use Rattle.counts.specs.declared.part.Part.{Part}
 use Rattle.counts.specs.Part.{part_of}
 use Rattle.pins.specs.Record.{pins_of}
-use Rattle.fifo.specs.declared.sample.Outcome.TheVariants.{Refused}
+use Rattle.fifo.specs.Outcome.{Refused}
 use Rattle.fifo.specs.Sample.{fetched_for, is_depth, record_refusal, sampled, stepped, taken, took, turned_away}
 
 refused_by : (takes : Bool) (a : Advanced) (number found : ℕ) (s : State) (memory : List ℕ)

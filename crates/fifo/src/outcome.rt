@@ -1,23 +1,18 @@
 // What an outcome stands for, by its cases.
+ghost use Rattle.fifo.specs.Outcome.{in_numbers};
 ghost use Rattle.fifo.specs.Sample.{answer_in, number_of};
 ghost use Rattle.std.specs.Prelude.{◌≡◌};
 
-use super::sample::Outcome;
+use refusal_kinds::Refusal;
 
-pub fn number_of(outcome: Outcome) -> u8
-    ensures { result ≡ number_of outcome }
+pub fn number_of(outcome: Result<u32, Refusal>) -> u8
+    ensures { result ≡ number_of (in_numbers outcome) }
 {
-    match outcome {
-        Outcome::Taken(_) => 0,
-        Outcome::Refused(number) => number,
-    }
+    refusal_kinds::number_of(outcome.err())
 }
 
-pub fn answer_of(outcome: Outcome) -> u32
-    ensures { result ≡ answer_in outcome }
+pub fn answer_of(outcome: Result<u32, Refusal>) -> u32
+    ensures { result ≡ answer_in (in_numbers outcome) }
 {
-    match outcome {
-        Outcome::Taken(answer) => answer,
-        Outcome::Refused(_) => 0,
-    }
+    outcome.unwrap_or(0)
 }

@@ -6,8 +6,7 @@ use lib.ListN.{length}
 use borrow.Author.Rules.{rules}
 use borrow.Author.Tests.{eq-eqb, ne_eqb}
 use Rattle.std.specs.Prelude.{None, Option, Some}
-use Rattle.buffers.specs.declared.verdict.Verdict.{Verdict}
-use Rattle.buffers.specs.declared.verdict.Verdict.TheVariants.{Work, Refuse}
+use Rattle.buffers.specs.Verdict.{Refuse, Verdict, Work}
 use Rattle.buffers.specs.Memory.{memory_bytes}
 use Rattle.buffers.specs.Verdict.{Ready, judged, number_of}
 use Rattle.buffers.specs.VerdictLaws.{cleared}

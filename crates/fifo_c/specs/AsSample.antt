@@ -19,8 +19,7 @@ use Rattle.fifo.specs.Sample.{After, answers_after, fetched_for, is_depth, recor
 use Rattle.pins.specs.Record.{pins_of}
 use Rattle.pins.specs.Trace.{whole_records, word_at}
 use Rattle.pins.specs.TraceLaws.{records_length}
-use Rattle.buffers.specs.declared.verdict.Verdict.{Verdict}
-use Rattle.buffers.specs.declared.verdict.Verdict.TheVariants.{Refuse}
+use Rattle.buffers.specs.Verdict.{Refuse, Verdict}
 use Rattle.numerals.specs.Bytes.{words_in}
 use Rattle.numerals.specs.BytesLaws.{word_in, words_put}
 use Rattle.buffers.specs.Memory.{fetched_from, memory_bytes, stored_in, word_size}

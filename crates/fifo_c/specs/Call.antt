@@ -1,7 +1,6 @@
 -- Bench figures, the C call: one sample on a part number and byte buffers.
 use Rattle.std.specs.Prelude.{ℕ, cond, List, ◌≡◌, eqb, length}
-use Rattle.buffers.specs.declared.verdict.Verdict.{Verdict}
-use Rattle.buffers.specs.declared.verdict.Verdict.TheVariants.{Work, Refuse}
+use Rattle.buffers.specs.Verdict.{Refuse, Verdict, Work}
 use Rattle.buffers.specs.Memory.{memory_bytes}
 use Rattle.buffers.specs.Verdict.{judged}
 use Rattle.chip.specs.Reset.{powered_up}

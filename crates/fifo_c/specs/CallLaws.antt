@@ -1,8 +1,6 @@
 -- The C call: a refusal moves nothing.
 use Rattle.std.specs.Prelude.{ℕ, Bool, true, false, List, ◌≢◌, ◌≡◌, refl, eqb, length}
-use Rattle.buffers.specs.declared.verdict.Verdict.{Verdict}
-use Rattle.buffers.specs.declared.verdict.Verdict.TheVariants.{Work, Refuse}
-use Rattle.buffers.specs.Verdict.{judged}
+use Rattle.buffers.specs.Verdict.{Refuse, Verdict, Work, judged}
 use Rattle.counts.specs.declared.part.Part.{Part}
 use Rattle.fifo.specs.Sample.{record_refusal}
 use Rattle.spelling.specs.Spelling.{state_in}

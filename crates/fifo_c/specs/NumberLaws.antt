@@ -2,7 +2,7 @@
 -- numbers stand in plain figures, so that a definition that says another is refused here.
 use Rattle.std.specs.Prelude.{ℕ, Bool, true, false, List, ◌≢◌, ◌≡◌, refl, eqb, length}
 use Rattle.std.proofs.Common.{sym, eq-eqb, eqb-true, ne_eqb}
-use Rattle.buffers.specs.declared.verdict.Verdict.TheVariants.{Work, Refuse}
+use Rattle.buffers.specs.Verdict.{Work, Refuse}
 use Rattle.buffers.specs.NumberLaws.{memory_length}
 use Rattle.buffers.specs.Verdict.{judged}
 use Rattle.counts.specs.declared.part.Part.{Part}

@@ -1,9 +1,9 @@
 // Bench figures: the calls that a bench simulator in C makes.
-ghost use Rattle.buffers.specs.Verdict.{number_of};
 ghost use Rattle.fifo_c.specs.Call.{Calls, GivesMemoryBytes, GivesStateBytes, PowersUp};
+ghost use Rattle.refusal_kinds.specs.Numbers.{code_of};
 ghost use Rattle.std.specs.Prelude.{◌≡◌};
 
-use buffers::verdict::Verdict;
+use refusal_kinds::Refusal;
 use spelling::state::STATE_BYTES;
 
 pub fn fifo_state_bytes() -> u32
@@ -42,18 +42,18 @@ pub fn fifo_sample(
 ) -> u32
     ensures { Calls part «record».now state.old memory.old answer.old result state.new memory.new answer.new }
 {
-    let verdict = buffers::verdict::judge(part, record, state, memory.len(), answer.len());
-    let Verdict::Work(known, word) = verdict else {
-        return number_of(verdict);
-    };
-    call_work::work::work(known, word, state, memory, answer)
+    buffers::wide::wide_byte(refusal_kinds::code_of(sample(part, record, state, memory, answer)))
 }
 
-fn number_of(verdict: Verdict) -> u32
-    ensures { result ≡ number_of verdict }
+fn sample(
+    part: u32,
+    record: &[u8],
+    state: &mut [u8],
+    memory: &mut [u8],
+    answer: &mut [u8],
+) -> Result<(), Refusal>
+    ensures { Calls part «record».now state.old memory.old answer.old (code_of result) state.new memory.new answer.new }
 {
-    match verdict {
-        Verdict::Work(_, _) => 0,
-        Verdict::Refuse(number) => number,
-    }
+    let (known, word) = buffers::verdict::judge(part, record, state, memory.len(), answer.len())?;
+    call_work::work::work(known, word, state, memory, answer)
 }

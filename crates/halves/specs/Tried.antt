@@ -5,6 +5,7 @@ use Rattle.chip.specs.Advance.{advanced}
 use Rattle.counts.specs.declared.part.Part.{Part}
 use Rattle.fifo.specs.Sample.{fetched_for, record_refusal}
 use Rattle.pins.specs.Record.{pins_of}
+use Rattle.refusal_kinds.specs.Numbers.{of_number}
 use Rattle.halves.specs.declared.state.Halves.{Halves}
 use Rattle.halves.specs.declared.tried.Trial.{Trial}
 use Rattle.halves.specs.declared.tried.Trials.{Trials}
@@ -15,16 +16,16 @@ abbrev pub asking : Part → ℕ → State → List ℕ → Trial
 asking part x s memory = record {
   asked = x;
   fetched = fetched_for part s memory;
-  number = 0;
+  refusal = None;
   advanced = record { state = s; answer = 0; store = None };
 }
 
--- the part's own number, and what the part gives if the record is taken
+-- what stands for the part's own number, and what the part gives if the record is taken
 unfoldable pub tried : Part → Trial → Trial
 tried part t = record {
   asked = t.asked;
   fetched = t.fetched;
-  number = record_refusal part t.asked t.advanced.state;
+  refusal = of_number (record_refusal part t.asked t.advanced.state);
   advanced = advanced part (pins_of t.asked) t.fetched t.advanced.state;
 }
 

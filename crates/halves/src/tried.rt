@@ -8,13 +8,14 @@ use super::state::Halves;
 use chip::advance::Advanced;
 use chip::state::State;
 use counts::part::Part;
+use refusal_kinds::Refusal;
 
-// A record for a part, and what the part makes of it: its number, 0 where it is not refused, and what it gives if it is taken.
+// A record for a part, and what the part makes of it: why it is refused, and what it gives if it is taken.
 #[derive(Clone, Copy)]
 pub struct Trial {
     pub asked: u32,
     pub fetched: u32,
-    pub number: u8,
+    pub refusal: Option<Refusal>,
     pub advanced: Advanced,
 }
 
@@ -48,7 +49,7 @@ fn ask(part: Part, record: u32, state: State, memory: &[u32]) -> Trial
     Trial {
         asked: record,
         fetched: fetched,
-        number: 0,
+        refusal: None,
         advanced: Advanced {
             state: state,
             answer: 0,
@@ -76,14 +77,14 @@ fn try_each(part: Part, left: Trial, right: Trial) -> Trials
     }
 }
 
-#[tactic(auto, unfolding(crate::specs::Tried::tried))]
+#[tactic(auto, unfolding(crate::specs::Tried::tried), using(refusal_kinds::specs::NumberLaws::by_number))]
 fn try_one(part: Part, trial: Trial) -> Trial
     requires { widths part trial.advanced.state ≡ true }
     ensures { result ≡ tried part trial }
 {
     let before = trial.advanced;
     let state = before.state;
-    let number = fifo::sample::refuse_record(part, trial.asked, state);
+    let refusal = fifo::sample::refuse_record(part, trial.asked, state);
     let advanced = chip::advance::advance(
         part,
         pins::record::decode(trial.asked),
@@ -93,7 +94,7 @@ fn try_one(part: Part, trial: Trial) -> Trial
     Trial {
         asked: trial.asked,
         fetched: trial.fetched,
-        number: number,
+        refusal: refusal,
         advanced: advanced,
     }
 }

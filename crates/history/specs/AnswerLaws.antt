@@ -12,7 +12,7 @@ use Rattle.refusals.specs.ReachLaws.{reached_passes}
 use Rattle.chip.specs.State.{widths}
 use Rattle.chip.specs.Widths.{tested_widths}
 use Rattle.counts.specs.declared.part.Part.{Part}
-use Rattle.fifo.specs.declared.sample.Outcome.TheVariants.{Taken}
+use Rattle.fifo.specs.Outcome.{Taken}
 use Rattle.pins.specs.Answer.{put_answer}
 use Rattle.fifo.specs.Sample.{After, number_of, record_refusal, stepped, taken, turned_away}
 use Rattle.pins.specs.declared.record.Pins.{Pins}

@@ -15,8 +15,7 @@ use Rattle.chip.specs.State.{passes}
 use Rattle.counts.specs.declared.part.Part.{Part}
 use Rattle.counts.specs.Part.{depth_of, number_of}
 use Rattle.counts.specs.PartLaws.{own_number}
-use Rattle.buffers.specs.declared.verdict.Verdict.{Verdict}
-use Rattle.buffers.specs.declared.verdict.Verdict.TheVariants.{Work, Refuse}
+use Rattle.buffers.specs.Verdict.{Refuse, Verdict, Work}
 use Rattle.fifo_c.specs.AsSample.{AsSample, call_is_sample}
 use Rattle.numerals.specs.Bytes.{words_in}
 use Rattle.numerals.specs.BytesLaws.{put_length}
@@ -28,7 +27,7 @@ use Rattle.buffers.specs.VerdictLaws.{cleared}
 use Rattle.spelling.specs.Spelling.{state_bytes, state_in}
 use Rattle.spelling.specs.ReadBackLaws.{Spelled, power_up_bytes, power_up_read}
 use Rattle.spelling.specs.SpellingLaws.{Bytes, spelling_length}
-use Rattle.fifo.specs.declared.sample.Outcome.{Outcome}
+use Rattle.fifo.specs.Outcome.{Outcome}
 use Rattle.pins.specs.Answer.{put_answer}
 use Rattle.fifo.specs.Sample.{answers_after, record_refusal}
 use Rattle.pins.specs.Record.{pins_of}

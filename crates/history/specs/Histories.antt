@@ -13,7 +13,7 @@ use Rattle.counts.specs.declared.part.Part.{Part}
 use Rattle.counts.specs.declared.part.Part.TheVariants.{Idt72V255LA}
 use Rattle.counts.specs.Part.{depth_of}
 use Rattle.runs.specs.declared.run.Ran.{Ran}
-use Rattle.fifo.specs.declared.sample.Outcome.TheVariants.{Taken}
+use Rattle.fifo.specs.Outcome.{Taken}
 use Rattle.runs.specs.Run.{Ended, ran_of}
 use Rattle.fifo.specs.Sample.{number_of}
 use Rattle.numerals.specs.Bytes.{words_in}

@@ -11,8 +11,7 @@ use native.Mathlib.Omega.{arith}
 use Rattle.chip.specs.Answer.{answer_of}
 use Rattle.chip.specs.Laws.{answer_whole}
 use Rattle.counts.specs.declared.part.Part.{Part}
-use Rattle.fifo.specs.declared.sample.Outcome.{Outcome}
-use Rattle.fifo.specs.declared.sample.Outcome.TheVariants.{Taken, Refused}
+use Rattle.fifo.specs.Outcome.{Outcome, Refused, Taken}
 use Rattle.notes.specs.Fold.{ended, folded, noted, started, stops}
 use Rattle.notes.specs.NoteLaws.{put_length}
 use Rattle.notes.specs.ReachLaws.{cond_either}

@@ -1,15 +1,23 @@
 // What is turned away of two records for two parts side by side: 11, and then each part's own number.
 ghost use Rattle.joint.specs.Refuse.{numbered, same_pins};
+ghost use Rattle.refusal_kinds.specs.Numbers.{number_of};
 ghost use Rattle.std.specs.Prelude.{◌≡◌};
 
-// The number of the first refusal that applies, or 0, by the number that each half's own table gives.
-pub fn refusal(left: u32, right: u32, by_left: u8, by_right: u8) -> u8
-    ensures { result ≡ numbered (same_pins left right) by_left by_right }
+use refusal_kinds::Refusal;
+
+// The first refusal that applies, by what each half's own table gives.
+pub fn refusal(
+    left: u32,
+    right: u32,
+    by_left: Option<Refusal>,
+    by_right: Option<Refusal>,
+) -> Option<Refusal>
+    ensures { number_of result ≡ numbered (same_pins left right) (number_of by_left) (number_of by_right) }
 {
     if is_same_pins(left, right) {
-        if by_left == 0 { by_right } else { by_left }
+        by_left.or(by_right)
     } else {
-        11
+        Some(Refusal::PinsDiffer)
     }
 }
 

@@ -6,7 +6,7 @@ use Rattle.rows.specs.Step.{Moving, chain_answer, chain_refusal, chain_stepped, 
 use Rattle.chip.specs.Answer.{lines_of}
 use Rattle.chip.specs.State.{widths}
 use Rattle.counts.specs.declared.part.Part.{Part}
-use Rattle.fifo.specs.declared.sample.Outcome.TheVariants.{Taken}
+use Rattle.fifo.specs.Outcome.{Taken}
 use Rattle.fifo.specs.Sample.{is_taken}
 use Rattle.links.specs.declared.record.Links.{Links}
 use Rattle.links.specs.Wire.{ends_of}

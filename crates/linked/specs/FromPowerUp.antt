@@ -16,8 +16,7 @@ use Rattle.chain_work.specs.Work.{Ended}
 use Rattle.chip.specs.declared.state.State.{State}
 use Rattle.counts.specs.declared.part.Part.{Part}
 use Rattle.counts.specs.Part.{depth_of, number_of}
-use Rattle.fifo.specs.declared.sample.Outcome.{Outcome}
-use Rattle.fifo.specs.declared.sample.Outcome.TheVariants.{Refused, Taken}
+use Rattle.fifo.specs.Outcome.{Outcome, Refused, Taken}
 use Rattle.fifo.specs.Sample as fifo
 use Rattle.fifo.specs.Sample.{is_taken}
 use Rattle.links.specs.declared.record.Links.{Links}

@@ -11,7 +11,7 @@ use Rattle.rows.specs.Step.{passes_to, started_to, state_of, wired_to}
 use Rattle.chain_work.specs.Work.{Ended, worked}
 use Rattle.counts.specs.declared.part.Part.{Part}
 use Rattle.counts.specs.Part.{depth_of}
-use Rattle.fifo.specs.declared.sample.Outcome.TheVariants.{Taken}
+use Rattle.fifo.specs.Outcome.{Taken}
 use Rattle.fifo.specs.Sample.{number_of}
 use Rattle.links.specs.declared.record.Links.{Links}
 use Rattle.links.specs.Wire.{wired}

@@ -1,27 +1,27 @@
-// What is turned away of a chain's record as a whole: 4, 5 and 14; and the least of the numbers that the parts give.
+// What is turned away of a chain's record as a whole: 4, 5 and 14; and the least of what the parts give.
 ghost use Rattle.links.specs.Refuse.{fourteen, least, whole_refusal};
-ghost use Rattle.std.specs.Prelude.{cond, ◌≡◌};
+ghost use Rattle.refusal_kinds.specs.Numbers.{number_of};
+ghost use Rattle.std.specs.Prelude.{◌≡◌};
 
 use super::record::Links;
 use pins::record::Pins;
+use refusal_kinds::Refusal;
 
-// `started` says that every part has had a Master Reset, `parts` is the least number that a part gives.
+// `started` says that every part has had a Master Reset, `parts` is the least refusal that a part gives.
 #[tactic(auto, unfolding(crate::specs::Refuse::whole_refusal))]
-pub fn refusal(x: Links, started: bool, parts: u8) -> u8
-    ensures { result ≡ whole_refusal x started parts }
+pub fn refusal(x: Links, started: bool, parts: Option<Refusal>) -> Option<Refusal>
+    ensures { number_of result ≡ whole_refusal x started (number_of parts) }
 {
     let p = x.pins;
-    let plain = super::record::is_plain(x.more);
-    let unstarted = p.mrs & !started;
-    let fourteen = is_fourteen(p);
-    let from_five = pick(unstarted, 5, pick(fourteen, 14, parts));
-    pick(plain, from_five, 4)
-}
-
-fn pick(applies: bool, number: u8, otherwise: u8) -> u8
-    ensures { result ≡ cond applies number otherwise }
-{
-    if applies { number } else { otherwise }
+    if !super::record::is_plain(x.more) {
+        Some(Refusal::UnreadableRecord)
+    } else if p.mrs & !started {
+        Some(Refusal::NoMasterReset)
+    } else if is_fourteen(p) {
+        Some(Refusal::NotInChain)
+    } else {
+        parts
+    }
 }
 
 #[tactic(auto, unfolding(crate::specs::Refuse::fourteen))]
@@ -31,17 +31,14 @@ fn is_fourteen(p: Pins) -> bool
     (p.mrs & p.prs & (!p.rt | !p.ld)) | (!p.mrs & !p.fwft)
 }
 
+// Of two the one with the lower number.
 #[tactic(auto, unfolding(crate::specs::Refuse::least))]
-pub fn least(one: u8, other: u8) -> u8
-    ensures { result ≡ least one other }
+pub fn least(one: Option<Refusal>, other: Option<Refusal>) -> Option<Refusal>
+    ensures { number_of result ≡ least (number_of one) (number_of other) }
 {
-    if one == 0 {
-        other
-    } else if other == 0 {
-        one
-    } else if one < other {
-        one
-    } else {
-        other
+    match (one, other) {
+        (None, last) => last,
+        (first, None) => first,
+        (Some(a), Some(b)) => { if a.number() < b.number() { one } else { other } }
     }
 }

@@ -7,9 +7,14 @@ use lib.ListN.{length}
 use Rattle.std.specs.Prelude.{None, Option, Some}
 use Rattle.counts.specs.declared.part.Part.{Part}
 use Rattle.counts.specs.Part.{part_of}
-use Rattle.fifo.specs.declared.sample.Sampled as fifo
+use Rattle.fifo.specs.Outcome as fifo
 use Rattle.fifo.specs.Sample as single
-use Rattle.pair.specs.declared.sample.Sampled.{Sampled}
+use Rattle.fifo.specs.Sample.{record_refusal}
+use Rattle.refusal_kinds.specs.Numbers as refusals
+use Rattle.pair.specs.Outcome.{Sampled}
+use Rattle.chip.specs.declared.state.State.{State}
+use Rattle.pins.specs.Record.{pins_of}
+use Rattle.refusals.specs.RefusalLaws as by_table
 use Rattle.halves.specs.declared.state.Halves.{Halves}
 use Rattle.halves.specs.declared.tried.Trials.{Trials}
 use Rattle.joint.specs.Refuse.{numbered, same_pins}
@@ -43,11 +48,19 @@ pub gives_refusal : {number : ℕ} {h : Halves} {r : Sampled} {memory : Two (Lis
     → Gives (turned_away number h memory) r memory
 gives_refusal e = record { result = e; words = refl }
 
+refusal_numbered : (part : Part) (x : ℕ) (s : State) → refusals.number_of (refusals.of_number (record_refusal part x s)) ≡ record_refusal part x s
+unfolding record_refusal
+refusal_numbered part x s = by_table.refusal_numbered part (pins_of x) s
+
 module _ (part : Part) (x : Two ℕ) (h : Halves) (memory : Two (List ℕ)) {trials : Trials} (t : trials ≡ tried_both part x h memory) {number : ℕ}
-    (n : number ≡ numbered (same_pins x.left x.right) trials.left.number trials.right.number) where
+    (n : number ≡ numbered (same_pins x.left x.right) (refusals.number_of trials.left.refusal) (refusals.number_of trials.right.refusal)) where
   judged : number ≡ pair_refusal part x h
   unfolding pair_refusal tried
-  judged = n ∙ rw t refl
+  judged =
+      n ∙ rw t
+      (ap (λ (left : ℕ). numbered (same_pins x.left x.right) left (refusals.number_of (refusals.of_number (record_refusal part x.right h.right))))
+      (refusal_numbered part x.left h.left)
+      ∙ ap (λ (right : ℕ). numbered (same_pins x.left x.right) (record_refusal part x.left h.left) right) (refusal_numbered part x.right h.right))
 
   pub stepped_takes : number ≡ 0
       → pair_stepped part x h memory ≡ both (single.took trials.left.advanced memory.left) (single.took trials.right.advanced memory.right)

@@ -1,3 +1,5 @@
+pub mod Outcome
+pub mod OutcomeLaws
 pub mod Sample
 pub mod SampleLaws
 pub mod NumberLaws

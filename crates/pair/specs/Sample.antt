@@ -2,13 +2,11 @@
 use Rattle.std.specs.Prelude.{ℕ, ◌+◌, ◌*◌, Bool, true, false, cond, ◌&&◌, List, ◌≡◌, eqb, length}
 use Rattle.counts.specs.declared.part.Part.{Part}
 use Rattle.counts.specs.Part.{by_part, part_of}
-use Rattle.fifo.specs.declared.sample.Sampled as fifo
+use Rattle.fifo.specs.Outcome as fifo
 use Rattle.fifo.specs.Sample as single
 use Rattle.fifo.specs.Sample.{answer_in, is_depth, stepped}
 use Rattle.pins.specs.Answer.{put_answer}
-use Rattle.pair.specs.declared.sample.Outcome.{Outcome}
-use Rattle.pair.specs.declared.sample.Outcome.TheVariants.{Taken, Refused}
-use Rattle.pair.specs.declared.sample.Sampled.{Sampled}
+use Rattle.pair.specs.Outcome.{Outcome, Refused, Sampled, Taken}
 use Rattle.halves.specs.declared.state.Halves.{Halves}
 use Rattle.halves.specs.Refuse.{pair_refusal}
 use Rattle.halves.specs.State.{passes_both}

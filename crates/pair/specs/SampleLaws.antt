@@ -6,12 +6,12 @@ use Rattle.chip.specs.declared.state.State.{State}
 use Rattle.chip.specs.State.{widths}
 use Rattle.counts.specs.declared.part.Part.{Part}
 use Rattle.counts.specs.Part.{by_part, part_of}
-use Rattle.fifo.specs.declared.sample.Outcome.TheVariants as fifo
+use Rattle.fifo.specs.Outcome as fifo
 use Rattle.fifo.specs.Sample as single
 use Rattle.fifo.specs.Sample.{answer_in, is_depth, record_refusal, stepped, taken}
 use Rattle.fifo.specs.SampleLaws as single-laws
 use Rattle.pins.specs.Record.{pins_of}
-use Rattle.pair.specs.declared.sample.Outcome.TheVariants.{Taken}
+use Rattle.pair.specs.Outcome.{Taken}
 use Rattle.halves.specs.declared.state.Halves.{Halves}
 use Rattle.joint.specs.Refuse.{same_pins}
 use Rattle.halves.specs.Refuse.{pair_refusal}

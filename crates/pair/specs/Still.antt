@@ -3,10 +3,10 @@ use Rattle.std.specs.Prelude.{ℕ, Bool, ◌&&◌}
 use Rattle.chip.specs.Answer.{answer_of}
 use Rattle.chip.specs.Quiet.{held}
 use Rattle.counts.specs.declared.part.Part.{Part}
-use Rattle.fifo.specs.declared.sample.Outcome.TheVariants as fifo
+use Rattle.fifo.specs.Outcome as fifo
 use Rattle.fifo.specs.Still.{still}
 use Rattle.pins.specs.Record.{pins_of}
-use Rattle.pair.specs.declared.sample.Sampled.{Sampled}
+use Rattle.pair.specs.Outcome.{Sampled}
 use Rattle.halves.specs.declared.state.Halves.{Halves}
 use Rattle.joint.specs.Refuse.{same_pins}
 use Rattle.pair.specs.Sample.{joined}

@@ -3,7 +3,9 @@
 use Rattle.std.specs.Prelude.{ℕ, List, ◌≡◌, length}
 use Rattle.std.proofs.Common.{sym, ◌∙◌}
 use Rattle.counts.specs.declared.part.Part.{Part}
-use Rattle.pair.specs.declared.sample.Sampled.{Sampled}
+use Rattle.pair.specs.declared.sample.Sampled as code
+use Rattle.pair.specs.Outcome.{Sampled, sampled_in_numbers}
+use Rattle.pair.specs.OutcomeLaws.{sampled_injective}
 use Rattle.halves.specs.declared.state.Halves.{Halves}
 use Rattle.pair.specs.Sample.{After, Gives, Samples, Steps, number_of, pair_sample_refusal, pair_sampled}
 use Rattle.halves.specs.Two.{Two, two}
@@ -24,3 +26,16 @@ sample_told number x h memory r after s = (s.refusal, s.gives.result, s.gives.wo
 pub step_unique : (part : Part) (x : Two ℕ) (h : Halves) (memory : Two (List ℕ)) (a b : Sampled) (m n : Two (List ℕ))
     → Steps part x h memory a m → Steps part x h memory b n → (a ≡ b) × (m ≡ n)
 step_unique part x h memory a b m n f g = (f.gives.result ∙ sym g.gives.result, f.gives.words ∙ sym g.gives.words)
+
+-- and so are the results as the operations hand them back
+pub gives_result_unique : {expected : After} {a b : code.Sampled} {m n : Two (List ℕ)} → Gives expected (sampled_in_numbers a) m
+    → Gives expected (sampled_in_numbers b) n → (a ≡ b) × (m ≡ n)
+gives_result_unique f g = let same = gives_unique f g in (sampled_injective _ _ same.0, same.1)
+
+pub sample_result_unique : (number : ℕ) (x : Two ℕ) (h : Halves) (memory : Two (List ℕ)) (a b : code.Sampled) (m n : Two (List ℕ))
+    → Samples number x h memory (sampled_in_numbers a) m → Samples number x h memory (sampled_in_numbers b) n → (a ≡ b) × (m ≡ n)
+sample_result_unique number x h memory a b m n f g = gives_result_unique f.gives g.gives
+
+pub step_result_unique : (part : Part) (x : Two ℕ) (h : Halves) (memory : Two (List ℕ)) (a b : code.Sampled) (m n : Two (List ℕ))
+    → Steps part x h memory (sampled_in_numbers a) m → Steps part x h memory (sampled_in_numbers b) n → (a ≡ b) × (m ≡ n)
+step_result_unique part x h memory a b m n f g = gives_result_unique f.gives g.gives

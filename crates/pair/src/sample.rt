@@ -1,6 +1,9 @@
 // One sample on two records and two lent memories: taken by both parts or by neither.
 ghost use Rattle.chip.specs.State.{widths};
 ghost use Rattle.fifo.specs.Sample.{is_depth};
+ghost use Rattle.fifo.specs.Outcome as fifo;
+ghost use Rattle.pair.specs.Outcome.{Refused, sampled_in_numbers};
+ghost use Rattle.refusal_kinds.specs.Numbers.{number};
 ghost use Rattle.pair.specs.Sample.{Samples, Steps, joined};
 ghost use Rattle.pair.specs.Still.{held_both, still_both};
 ghost use Rattle.halves.specs.Two.{two};
@@ -8,17 +11,12 @@ ghost use Rattle.std.specs.Prelude.{◌&&◌, true, ◌≡◌};
 
 use counts::part::Part;
 use halves::state::Halves;
+use refusal_kinds::Refusal;
 
-// Taken with both packed answers, or refused with its number.
-#[derive(Clone, Copy)]
-pub enum Outcome {
-    Taken(u32, u32),
-    Refused(u8),
-}
-
+// Taken with both packed answers, or refused.
 #[derive(Clone, Copy)]
 pub struct Sampled {
-    pub outcome: Outcome,
+    pub outcome: Result<(u32, u32), Refusal>,
     pub state: Halves,
 }
 
@@ -30,17 +28,17 @@ pub fn sample(
     left_memory: &mut [u32],
     right_memory: &mut [u32],
 ) -> Sampled
-    ensures { Samples part (two left right) state (two left_memory.old right_memory.old) result (two left_memory.new right_memory.new) }
+    ensures { Samples part (two left right) state (two left_memory.old right_memory.old) (sampled_in_numbers result) (two left_memory.new right_memory.new) }
 {
     let looked_up = counts::part::look_up(part);
     let Some(known) = looked_up else {
-        return turn_away(1, state);
+        return turn_away(Refusal::UnknownPart, state);
     };
     if !are_depth(known, left_memory.len(), right_memory.len()) {
-        return turn_away(2, state);
+        return turn_away(Refusal::WrongLength, state);
     }
     if !halves::state::passes_test(known, state) {
-        return turn_away(3, state);
+        return turn_away(Refusal::UnfitState, state);
     }
     step(known, left, right, state, left_memory, right_memory)
 }
@@ -61,7 +59,7 @@ pub fn step(
     right_memory: &mut [u32],
 ) -> Sampled
     requires { (widths part state.left ≡ true) × (widths part state.right ≡ true) }
-    ensures { Steps part (two left right) state (two left_memory.old right_memory.old) result (two left_memory.new right_memory.new) }
+    ensures { Steps part (two left right) state (two left_memory.old right_memory.old) (sampled_in_numbers result) (two left_memory.new right_memory.new) }
 {
     if are_still(left, right, state) {
         return hold(part, left, right, state);
@@ -69,9 +67,8 @@ pub fn step(
     let trials = halves::tried::try_both(part, left, right, state, left_memory, right_memory);
     let by_left = trials.left;
     let by_right = trials.right;
-    let number = joint::refuse::refusal(left, right, by_left.number, by_right.number);
-    if number != 0 {
-        return turn_away(number, state);
+    if let Some(refusal) = joint::refuse::refusal(left, right, by_left.refusal, by_right.refusal) {
+        return turn_away(refusal, state);
     }
     let left_given = fifo::sample::give(by_left.advanced, left_memory);
     let right_given = fifo::sample::give(by_right.advanced, right_memory);
@@ -89,7 +86,7 @@ fn are_still(left: u32, right: u32, state: Halves) -> bool
 }
 
 fn hold(part: Part, left: u32, right: u32, state: Halves) -> Sampled
-    ensures { result ≡ held_both part (two left right) state }
+    ensures { sampled_in_numbers result ≡ held_both part (two left right) state }
 {
     let by_left = fifo::sample::hold(part, pins::record::decode(left), state.left);
     let by_right = fifo::sample::hold(part, pins::record::decode(right), state.right);
@@ -97,17 +94,17 @@ fn hold(part: Part, left: u32, right: u32, state: Halves) -> Sampled
 }
 
 fn join(left: fifo::sample::Sampled, right: fifo::sample::Sampled) -> Sampled
-    ensures { result ≡ joined left right }
+    ensures { sampled_in_numbers result ≡ joined (fifo.sampled_in_numbers left) (fifo.sampled_in_numbers right) }
 {
     let left_outcome = left.outcome;
     let right_outcome = right.outcome;
     let left_state = left.state;
     let right_state = right.state;
     Sampled {
-        outcome: Outcome::Taken(
+        outcome: Ok((
             fifo::outcome::answer_of(left_outcome),
             fifo::outcome::answer_of(right_outcome),
-        ),
+        )),
         state: Halves {
             left: left_state,
             right: right_state,
@@ -115,11 +112,11 @@ fn join(left: fifo::sample::Sampled, right: fifo::sample::Sampled) -> Sampled
     }
 }
 
-fn turn_away(number: u8, state: Halves) -> Sampled
-    ensures { result ≡ record { outcome = Outcome.Refused number; state = state } }
+fn turn_away(refusal: Refusal, state: Halves) -> Sampled
+    ensures { sampled_in_numbers result ≡ record { outcome = Refused (number refusal); state = state } }
 {
     Sampled {
-        outcome: Outcome::Refused(number),
+        outcome: Err(refusal),
         state: state,
     }
 }

@@ -11,9 +11,7 @@ use Rattle.notes.specs.Fold.{Ends, accepted_after, marks_after, stops}
 use Rattle.notes.specs.LoopLaws as loop
 use Rattle.notes.specs.LoopLaws.{Steady}
 use Rattle.notes.specs.NoteLaws.{put_length}
-use Rattle.pair.specs.declared.sample.Outcome.{Outcome}
-use Rattle.pair.specs.declared.sample.Outcome.TheVariants.{Taken, Refused}
-use Rattle.pair.specs.declared.sample.Sampled.{Sampled}
+use Rattle.pair.specs.Outcome.{Outcome, Refused, Sampled, Taken}
 use Rattle.halves.specs.declared.state.Halves.{Halves}
 use Rattle.pair.specs.Sample.{After, Gives, answers_after, number_of, pair_stepped}
 use Rattle.pair.specs.SampleLaws.{step_lengths, step_numbered, step_widths}

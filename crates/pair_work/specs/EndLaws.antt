@@ -5,7 +5,7 @@ use Rattle.std.proofs.Common.{◌∙◌, ne_eqb, arith}
 use Rattle.counts.specs.declared.part.Part.{Part}
 use Rattle.notes.specs.Fold.{noted}
 use Rattle.notes.specs.TraceLaws as trace
-use Rattle.pair.specs.declared.sample.Outcome.TheVariants.{Taken, Refused}
+use Rattle.pair.specs.Outcome.{Taken, Refused}
 use Rattle.halves.specs.Refuse.{pair_refusal}
 use Rattle.pair.specs.Sample.{After, answers_after}
 use Rattle.pair.specs.SampleLaws.{step_numbered}

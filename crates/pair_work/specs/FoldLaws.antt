@@ -8,8 +8,7 @@ use Rattle.notes.specs.Fold.{ended, folded}
 use Rattle.notes.specs.FoldLaws.{Along, fold_moved, moved, moved_end, put_after, same_steps}
 use Rattle.notes.specs.TraceLaws as trace
 use Rattle.notes.specs.TraceLaws.{Cut}
-use Rattle.pair.specs.declared.sample.Outcome.{Outcome}
-use Rattle.pair.specs.declared.sample.Outcome.TheVariants.{Taken, Refused}
+use Rattle.pair.specs.Outcome.{Outcome, Refused, Taken}
 use Rattle.halves.specs.declared.state.Halves.{Halves}
 use Rattle.pair.specs.Sample.{answers_after, pair_sampled, pair_stepped}
 use Rattle.pair.specs.SampleLaws.{sample_is_step, step_lengths}

@@ -3,6 +3,7 @@ ghost use Rattle.std.specs.Prelude.{◌*◌, ◌+◌, ◌<◌, ◌≤◌, length
 ghost use Rattle.chip.specs.State.{widths};
 ghost use Rattle.halves.specs.Two.{two};
 ghost use Rattle.notes.specs.Fold.{Ends, started};
+ghost use Rattle.pair.specs.Outcome.{in_numbers};
 ghost use Rattle.pair.specs.Sample.{answers_after, number_of};
 ghost use Rattle.pair_work.specs.Samples as samples;
 ghost use Rattle.pair_work.specs.Samples.{whole_samples};
@@ -11,7 +12,7 @@ ghost use Rattle.pair_work.specs.Work.{ran_of, worked};
 use super::samples::Sample;
 use counts::part::Part;
 use halves::state::Halves;
-use pair::sample::Outcome;
+use refusal_kinds::Refusal;
 
 // Where a run ended: the index of the sample that it refused, or of the end of the trace, and the number, 0 for none.
 #[derive(Clone, Copy)]
@@ -69,20 +70,17 @@ pub fn work(
     }
 }
 
-fn number_of(outcome: Outcome) -> u8
-    ensures { result ≡ number_of outcome }
+fn number_of(outcome: Result<(u32, u32), Refusal>) -> u8
+    ensures { result ≡ number_of (in_numbers outcome) }
 {
-    match outcome {
-        Outcome::Taken(_, _) => 0,
-        Outcome::Refused(number) => number,
-    }
+    refusal_kinds::number_of(outcome.err())
 }
 
-fn note_answers(outcome: Outcome, index: usize, answers: &mut [u8])
+fn note_answers(outcome: Result<(u32, u32), Refusal>, index: usize, answers: &mut [u8])
     requires { index * 6 + 5 < length answers.old }
-    ensures { answers.new ≡ answers_after outcome index answers.old }
+    ensures { answers.new ≡ answers_after (in_numbers outcome) index answers.old }
 {
-    if let Outcome::Taken(left, right) = outcome {
+    if let Ok((left, right)) = outcome {
         notes::answers::put_answer(answers, index * 2, left);
         notes::answers::put_answer(answers, index * 2 + 1, right);
     }

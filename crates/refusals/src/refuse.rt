@@ -2,19 +2,21 @@
 ghost use Rattle.refusals.specs.Free.{free};
 ghost use Rattle.refusals.specs.Refuse.{Refuses, asks_unselected, from_six, refuses_eight, refuses_five, refuses_nine, refuses_seven, refuses_six, refuses_ten, refuses_twelve, retransmit_most, several_low};
 ghost use Rattle.counts.specs.Part.{depth_of};
-ghost use Rattle.std.specs.Prelude.{cond, ◌≡◌};
+ghost use Rattle.refusal_kinds.specs.Numbers.{number_of};
+ghost use Rattle.std.specs.Prelude.{◌≡◌};
 
 use chip::state::State;
 use counts::part::Part;
 use offsets::registers::Method;
 use pins::record::Pins;
+use refusal_kinds::Refusal;
 use sides::read::Mode;
 
-pub fn refusal(part: Part, p: Pins, s: State) -> u8
-    ensures { Refuses part p s result }
+pub fn refusal(part: Part, p: Pins, s: State) -> Option<Refusal>
+    ensures { Refuses part p s (number_of result) }
 {
     if is_free(p, s) {
-        0
+        None
     } else {
         first_refusal(part, p, s)
     }
@@ -31,36 +33,36 @@ fn is_free(p: Pins, s: State) -> bool
 }
 
 #[tactic(auto, unfolding(crate::specs::Refuse::refusal_of))]
-fn first_refusal(part: Part, p: Pins, s: State) -> u8
-    ensures { Refuses part p s result }
+fn first_refusal(part: Part, p: Pins, s: State) -> Option<Refusal>
+    ensures { Refuses part p s (number_of result) }
 {
     if refuses_five(p, s) {
-        5
+        Some(Refusal::NoMasterReset)
     } else if p.mrs & p.prs {
         refuse_from_six(part, p, s)
     } else {
-        0
+        None
     }
 }
 
-fn refuse_from_six(part: Part, p: Pins, s: State) -> u8
-    ensures { result ≡ from_six part p s }
+fn refuse_from_six(part: Part, p: Pins, s: State) -> Option<Refusal>
+    ensures { number_of result ≡ from_six part p s }
 {
-    let six = refuses_six(p, s);
-    let seven = refuses_seven(p, s);
-    let eight = refuses_eight(p, s);
-    let nine = refuses_nine(part, p, s);
-    let ten = refuses_ten(p, s);
-    let twelve = refuses_twelve(p, s);
-    let from_ten = pick(ten, 10, pick(twelve, 12, 0));
-    let from_eight = pick(eight, 8, pick(nine, 9, from_ten));
-    pick(six, 6, pick(seven, 7, from_eight))
-}
-
-fn pick(applies: bool, number: u8, otherwise: u8) -> u8
-    ensures { result ≡ cond applies number otherwise }
-{
-    if applies { number } else { otherwise }
+    if refuses_six(p, s) {
+        Some(Refusal::SeveralEnables)
+    } else if refuses_seven(p, s) {
+        Some(Refusal::MethodNotSelected)
+    } else if refuses_eight(p, s) {
+        Some(Refusal::UncleanRetransmit)
+    } else if refuses_nine(part, p, s) {
+        Some(Refusal::RetransmitTooFewOrMany)
+    } else if refuses_ten(p, s) {
+        Some(Refusal::WriteBeforeRetransmitSeen)
+    } else if refuses_twelve(p, s) {
+        Some(Refusal::UnsettledData)
+    } else {
+        None
+    }
 }
 
 fn refuses_five(p: Pins, s: State) -> bool

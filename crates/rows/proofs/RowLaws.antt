@@ -10,7 +10,7 @@ use Rattle.chip.specs.declared.state.State.{State}
 use Rattle.chip.specs.Quiet.{held, quiet}
 use Rattle.chip.specs.QuietLaws.{quiet_advanced}
 use Rattle.counts.specs.declared.part.Part.{Part}
-use Rattle.fifo.specs.declared.sample.Sampled.{Sampled}
+use Rattle.fifo.specs.Outcome.{Sampled}
 use Rattle.fifo.specs.Sample.{Gives, fetched_for, taken}
 use Rattle.pins.specs.declared.record.Pins.{Pins}
 use Rattle.rows.specs.Step.{Moves, moved_part}

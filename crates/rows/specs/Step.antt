@@ -7,8 +7,7 @@ use Rattle.chip.specs.ResetLaws.{is_fwft}
 use Rattle.chip.specs.State.{passes}
 use Rattle.counts.specs.declared.part.Part.{Part}
 use Rattle.counts.specs.Part.{depth_of}
-use Rattle.fifo.specs.declared.sample.Outcome.{Outcome}
-use Rattle.fifo.specs.declared.sample.Outcome.TheVariants.{Taken, Refused}
+use Rattle.fifo.specs.Outcome.{Outcome, Refused, Taken}
 use Rattle.fifo.specs.Sample.{taken}
 use Rattle.links.specs.declared.record.Links.{Links}
 use Rattle.links.specs.Record.{marks_of}

@@ -4,6 +4,7 @@ ghost use Rattle.rows.specs.Step.{chain_refusal, passes_part, passes_to};
 ghost use Rattle.chip.specs.Answer.{lines_of};
 ghost use Rattle.links.specs.Record.{marks_of};
 ghost use Rattle.links.specs.Wire.{wired};
+ghost use Rattle.refusal_kinds.specs.Numbers.{number_of};
 
 use super::row::Row;
 use chip::state::State;
@@ -11,6 +12,7 @@ use counts::part::Part;
 use links::record::Links;
 use pins::answer::Lines;
 use pins::record::Pins;
+use refusal_kinds::Refusal;
 
 #[tactic(auto, unfolding(crate::specs::Step::all_to))]
 pub fn pass_test(part: Part, row: Row) -> bool
@@ -35,27 +37,27 @@ fn passes_test(part: Part, s: State) -> bool
     chip::state::passes_test(part, s) & (!s.started | chip::state::is_fwft(s))
 }
 
-// The number of the first refusal that applies to a record, or 0.
-pub fn refusal(part: Part, x: Links, row: Row) -> u8
+// The first refusal that applies to a record: 4, 5 or 14 of the record as a whole, and else the least that a part gives.
+pub fn refusal(part: Part, x: Links, row: Row) -> Option<Refusal>
     requires { row.count ≤ 8 }
-    ensures { result ≡ chain_refusal part x row }
+    ensures { number_of result ≡ chain_refusal part x row }
 {
     let count = row.count;
     let first = row.states[0];
     let mut earlier = chip::answer::lines(part, false, first);
     let mut started = true;
-    let mut number: u8 = 0;
+    let mut least: Option<Refusal> = None;
     let mut i: usize = 0;
     while i < count {
         let s = row.states[i];
         let later = row.states[place_after(i)];
         let p = wire_part(part, x, count, i, earlier, later);
-        number = links::refuse::least(number, refusals::refuse::refusal(part, p, s));
+        least = links::refuse::least(least, refusals::refuse::refusal(part, p, s));
         started = started & s.started;
         earlier = chip::answer::lines(part, false, s);
         i += 1;
     }
-    links::refuse::refusal(x, started, number)
+    links::refuse::refusal(x, started, least)
 }
 
 // The last place of a row has none after it; which state stands for it does not matter there.

@@ -9,9 +9,7 @@ use Rattle.std.specs.Prelude.{None, Option, Some}
 use Rattle.chip.specs.State.{passes, widths}
 use Rattle.counts.specs.declared.part.Part.{Part}
 use Rattle.counts.specs.Part.{part_of}
-use Rattle.fifo.specs.declared.sample.Outcome.{Outcome}
-use Rattle.fifo.specs.declared.sample.Outcome.TheVariants.{Taken, Refused}
-use Rattle.fifo.specs.declared.sample.Sampled.{Sampled}
+use Rattle.fifo.specs.Outcome.{Outcome, Refused, Sampled, Taken}
 use Rattle.fifo.specs.NumberLaws.{step_numbered}
 use Rattle.fifo.specs.Sample.{After, Gives, answers_after, number_of, stepped}
 use Rattle.fifo.specs.SampleLaws.{step_length, step_widths}

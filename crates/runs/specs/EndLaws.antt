@@ -3,7 +3,7 @@
 use Rattle.std.specs.Prelude.{ℕ, ◌+◌, ◌*◌, ◌/◌, ◌%◌, ◌≤◌, ◌<◌, Bool, true, List, ◌++◌, ◌≢◌, ◌≡◌, refl, get_or, length}
 use Rattle.std.proofs.Common.{◌∙◌, ne_eqb}
 use Rattle.counts.specs.declared.part.Part.{Part}
-use Rattle.fifo.specs.declared.sample.Outcome.TheVariants.{Taken, Refused}
+use Rattle.fifo.specs.Outcome.{Taken, Refused}
 use Rattle.fifo.specs.NumberLaws.{step_numbered}
 use Rattle.fifo.specs.Sample.{After, record_refusal}
 use Rattle.notes.specs.Fold.{noted}

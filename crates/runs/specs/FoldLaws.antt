@@ -5,8 +5,7 @@ use Rattle.chip.specs.declared.state.State.{State}
 use Rattle.chip.specs.State.{passes}
 use Rattle.counts.specs.declared.part.Part.{Part}
 use Rattle.counts.specs.Part.{part_of}
-use Rattle.fifo.specs.declared.sample.Outcome.{Outcome}
-use Rattle.fifo.specs.declared.sample.Outcome.TheVariants.{Taken, Refused}
+use Rattle.fifo.specs.Outcome.{Outcome, Refused, Taken}
 use Rattle.fifo.specs.Sample.{answers_after, is_depth, sampled, stepped}
 use Rattle.fifo.specs.SampleLaws.{sample_is_step, step_length}
 use Rattle.notes.specs.Fold.{ended, folded}

@@ -1,6 +1,7 @@
 // A run over a whole trace, strict or lenient.
 ghost use Rattle.std.specs.Prelude.{◌*◌, ◌+◌, ◌<◌, ◌≤◌, length, true, ◌≡◌};
 ghost use Rattle.chip.specs.State.{widths};
+ghost use Rattle.fifo.specs.Outcome.{in_numbers};
 ghost use Rattle.fifo.specs.Sample.{answers_after};
 ghost use Rattle.notes.specs.Fold.{Ends, started};
 ghost use Rattle.runs.specs.Run.{Began, Runs, RunsLenient, ran_of, worked};
@@ -9,8 +10,8 @@ ghost use Rattle.pins.specs.Trace.{whole_records};
 
 use chip::state::State;
 use counts::part::Part;
-use fifo::sample::Outcome;
 use pins::trace::Record;
+use refusal_kinds::Refusal;
 
 // Where a run ended: the index of the record that it refused, or of the end of the trace, and the number, 0 for none.
 #[derive(Clone, Copy)]
@@ -115,11 +116,11 @@ fn go(
     }
 }
 
-fn note_answer(outcome: Outcome, index: usize, answers: &mut [u8])
+fn note_answer(outcome: Result<u32, Refusal>, index: usize, answers: &mut [u8])
     requires { index * 3 + 2 < length answers.old }
-    ensures { answers.new ≡ answers_after outcome index answers.old }
+    ensures { answers.new ≡ answers_after (in_numbers outcome) index answers.old }
 {
-    if let Outcome::Taken(answer) = outcome {
+    if let Ok(answer) = outcome {
         notes::answers::put_answer(answers, index, answer);
     }
 }

@@ -10,13 +10,13 @@ returns-in_default c =
     rw c.end_at.ensures
     (ended_now c.loop-head.invariant c.record_at-record.ensures.result (no_whole c.record_at-record.result c.in_default.not-Whole) c.ending.ensures)
 
-pub refusal-number-requires : goal.refusal-number-requires
-refusal-number-requires c = (fits_told _ _ _ c.loop-head.invariant.turns.fitting).most
+pub refusal-requires : goal.refusal-requires
+refusal-requires c = (fits_told _ _ _ c.loop-head.invariant.turns.fitting).most
 
 pub returns-then-is_stop : goal.returns-then-is_stop
 returns-then-is_stop c =
     rw c.end_at-then-is_stop.ensures
-    (stopped_now c.loop-head.invariant c.record_at-record.ensures.result c.in-Whole.is c.read_links-x.ensures c.refusal-number.ensures c.is_stop.ensures
+    (stopped_now c.loop-head.invariant c.record_at-record.ensures.result c.in-Whole.is c.read_links-x.ensures (c.number_of-number.ensures ∙ c.refusal.ensures) c.is_stop.ensures
     c.if-is_stop.true)
 
 pub loop-i-init : goal.loop-i-init
@@ -27,32 +27,32 @@ loop-i-init c =
 pub offset_bounds-r-i : goal.offset_bounds-r-i
 offset_bounds-r-i c =
     let f = fits_told _ _ _ c.loop-head.invariant.turns.fitting in
-    let most = moving_most c.refusal-number.result _ c.moving_parts-moving.ensures in
+    let most = moving_most c.number_of-number.result _ c.moving_parts-moving.ensures in
     omega (arith, below _ _ _ _ _ f c.loop-i.invariant c.loop-i-test.true most)
 
 pub bounds-r-i : goal.bounds-r-i
 bounds-r-i c =
     let f = fits_told _ _ _ c.loop-head.invariant.turns.fitting in
-    let most = moving_most c.refusal-number.result _ c.moving_parts-moving.ensures in
+    let most = moving_most c.number_of-number.result _ c.moving_parts-moving.ensures in
     below _ _ _ _ _ f c.loop-i.invariant c.loop-i-test.true most
 
 pub wire_part-p-requires : goal.wire_part-p-requires
 wire_part-p-requires c =
     let f = fits_told _ _ _ c.loop-head.invariant.turns.fitting in
-    let most = moving_most c.refusal-number.result _ c.moving_parts-moving.ensures in
+    let most = moving_most c.number_of-number.result _ c.moving_parts-moving.ensures in
     below _ _ _ _ _ f c.loop-i.invariant c.loop-i-test.true most
 
 pub overflow_mul-i : goal.overflow_mul-i
 overflow_mul-i c =
     let f = fits_told _ _ _ c.loop-head.invariant.turns.fitting in
-    let most = moving_most c.refusal-number.result _ c.moving_parts-moving.ensures in
+    let most = moving_most c.number_of-number.result _ c.moving_parts-moving.ensures in
     let within = base_within _ _ _ _ _ f c.loop-i.invariant c.loop-i-test.true most c.depth.ensures c.loop-head.invariant.turns.words in
     omega (arith, within, c.loop-i.auto.memory)
 
 pub move_part-requires : goal.move_part-requires
 move_part-requires c =
     let f = fits_told _ _ _ c.loop-head.invariant.turns.fitting in
-    let most = moving_most c.refusal-number.result _ c.moving_parts-moving.ensures in (
+    let most = moving_most c.number_of-number.result _ c.moving_parts-moving.ensures in (
       base_within _ _ _ _ _ f c.loop-i.invariant c.loop-i-test.true most c.depth.ensures c.loop-head.invariant.turns.words,
       wide_at _ _ _ _ _ f c.loop-i.invariant c.loop-i-test.true most _,
     )
@@ -60,19 +60,19 @@ move_part-requires c =
 pub offset_bounds-r-i-in-loop-i : goal.offset_bounds-r-i-in-loop-i
 offset_bounds-r-i-in-loop-i c =
     let f = fits_told _ _ _ c.loop-head.invariant.turns.fitting in
-    let most = moving_most c.refusal-number.result _ c.moving_parts-moving.ensures in
+    let most = moving_most c.number_of-number.result _ c.moving_parts-moving.ensures in
     omega (arith, below _ _ _ _ _ f c.loop-i.invariant c.loop-i-test.true most)
 
 pub bounds-r-i-in-loop-i : goal.bounds-r-i-in-loop-i
 bounds-r-i-in-loop-i c =
     let f = fits_told _ _ _ c.loop-head.invariant.turns.fitting in
-    let most = moving_most c.refusal-number.result _ c.moving_parts-moving.ensures in
+    let most = moving_most c.number_of-number.result _ c.moving_parts-moving.ensures in
     below _ _ _ _ _ f c.loop-i.invariant c.loop-i-test.true most
 
 pub loop-i-preserved : goal.loop-i-preserved
 loop-i-preserved c =
     let f = fits_told _ _ _ c.loop-head.invariant.turns.fitting in
-    let most = moving_most c.refusal-number.result _ c.moving_parts-moving.ensures in
+    let most = moving_most c.number_of-number.result _ c.moving_parts-moving.ensures in
     moved_now _ _ _ _ _ f c.loop-i.invariant c.loop-i-test.true most _
     (wired_at _ _ _ _ _ f c.loop-i.invariant c.loop-i-test.true most c.place_after.ensures _ c.wire_part-p.ensures) c.depth.ensures c.move_part.ensures
     c.lines-earlier-in-loop-i.ensures
@@ -98,7 +98,7 @@ loop-head-smaller c = omega (arith, whole_below _ _ (sym c.record_at-record.ensu
 pub loop-head-preserved : goal.loop-head-preserved
 loop-head-preserved c =
     let f = fits_told _ _ _ c.loop-head.invariant.turns.fitting in
-    turned_now c.loop-head.invariant c.record_at-record.ensures.result c.in-Whole.is c.read_links-x.ensures c.refusal-number.ensures c.is_stop.ensures
+    turned_now c.loop-head.invariant c.record_at-record.ensures.result c.in-Whole.is c.read_links-x.ensures (c.number_of-number.ensures ∙ c.refusal.ensures) c.is_stop.ensures
     c.moving_parts-moving.ensures (all_moved _ _ _ _ _ f c.loop-i.invariant c.loop-i-test.false)
     (answer_now _ _ _ _ _ f c.loop-i.invariant _ c.place_before.ensures _ _ c.answer-answer.ensures) c.if-is_stop.false c.note_answer.ensures
     c.note_mark.ensures c.count-accepted.ensures

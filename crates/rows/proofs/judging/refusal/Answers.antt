@@ -16,7 +16,7 @@ loop-i-preserved c =
     let below = c.loop-i-test.true in
     judged_now a.part a.x a.row eight j below c.requires _
     (wired_at a.part a.x a.row eight j below c.requires c.place_after.ensures _ c.wire_part-p.ensures)
-    c.refusal.ensures c.least-number.ensures c.lines-earlier-in-loop-i.ensures
+    c.refusal.ensures c.least-least.ensures c.lines-earlier-in-loop-i.ensures
 
 pub returns : goal.returns
 returns c =

@@ -1,0 +1,57 @@
+// Why a sample, a run or a call is turned away: a name for each number of the table.
+#![tactic(auto)]
+
+ghost use Rattle.refusal_kinds.specs.Numbers.{code_of, number, number_of};
+ghost use Rattle.std.specs.Prelude.{◌≡◌};
+
+#[derive(Clone, Copy, Debug, PartialEq, Eq)]
+pub enum Refusal {
+    UnknownPart = 1,
+    // Of a memory, of a room for answers, or of what C lends for a state.
+    WrongLength = 2,
+    // One that no part comes to, two halves in different modes, or a part of a chain in the mode that a chain does not have.
+    UnfitState = 3,
+    // Of another length, or with a bit set that is to be zero.
+    UnreadableRecord = 4,
+    NoMasterReset = 5,
+    // With LD LOW.
+    SeveralEnables = 6,
+    // Offsets by the other of the two methods.
+    MethodNotSelected = 7,
+    // An enable is LOW at the rise, or was at RT's fall or just before it.
+    UncleanRetransmit = 8,
+    // Words written since the reset.
+    RetransmitTooFewOrMany = 9,
+    WriteBeforeRetransmitSeen = 10,
+    // Of the two records of a pair, which share them.
+    PinsDiffer = 11,
+    UnsettledData = 12,
+    // In a row.
+    WrongPartCount = 13,
+    // A retransmit, offsets, or a Master Reset into Standard mode.
+    NotInChain = 14,
+}
+
+impl Refusal {
+    pub fn number(self) -> u8
+        ensures { result ≡ number self }
+    {
+        self as u8
+    }
+}
+
+// 0 where nothing is turned away, in both.
+pub fn number_of(refusal: Option<Refusal>) -> u8
+    ensures { result ≡ number_of refusal }
+{
+    match refusal {
+        None => 0,
+        Some(refusal) => refusal.number(),
+    }
+}
+
+pub fn code_of(done: Result<(), Refusal>) -> u8
+    ensures { result ≡ code_of done }
+{
+    number_of(done.err())
+}
