@@ -15,10 +15,8 @@ fn load(states: &[State]) -> Row
     ensures { result ≡ row_of states.now }
 {
     let mut row = rows::row::power_up(states.len());
-    let mut i: usize = 0;
-    while i < states.len() {
+    for i in 0..states.len() {
         row = rows::row::with_state(row, i, states[i]);
-        i += 1;
     }
     row
 }
@@ -26,10 +24,8 @@ fn load(states: &[State]) -> Row
 fn store(states: &mut [State], row: Row)
     ensures { states.new ≡ put_back row states.old }
 {
-    let mut i: usize = 0;
-    while i < states.len() {
+    for i in 0..states.len() {
         states[i] = rows::row::chosen(row, i, states[i]);
-        i += 1;
     }
 }
 

@@ -48,10 +48,10 @@ fn ask(part: Part, record: u32, state: State, memory: &[u32]) -> Trial
     let fetched = fifo::memory::fetch_for(part, state, memory);
     Trial {
         asked: record,
-        fetched: fetched,
+        fetched,
         refusal: None,
         advanced: Advanced {
-            state: state,
+            state,
             answer: 0,
             store: None,
         },
@@ -65,16 +65,11 @@ fn try_each(part: Part, left: Trial, right: Trial) -> Trials
     ensures { result ≡ record { left = tried part left; right = tried part right } }
 {
     let mut both = [left, right];
-    let mut side: usize = 0;
-    while side < 2 {
-        let trial = both[side];
-        both[side] = try_one(part, trial);
-        side += 1;
+    for side in 0..2 {
+        both[side] = try_one(part, both[side]);
     }
-    Trials {
-        left: both[0],
-        right: both[1],
-    }
+    let [left, right] = both;
+    Trials { left, right }
 }
 
 #[tactic(auto, unfolding(crate::specs::Tried::tried), using(refusal_kinds::specs::NumberLaws::by_number))]

@@ -19,13 +19,9 @@ pub fn pass_test(part: Part, row: Row) -> bool
     requires { row.count ≤ 8 }
     ensures { result ≡ passes_to part row row.count }
 {
-    let count = row.count;
     let mut pass = true;
-    let mut i: usize = 0;
-    while i < count {
-        let s = row.states[i];
-        pass = pass & passes_test(part, s);
-        i += 1;
+    for i in 0..row.count {
+        pass = pass & passes_test(part, row.states[i]);
     }
     pass
 }
@@ -43,19 +39,16 @@ pub fn refusal(part: Part, x: Links, row: Row) -> Option<Refusal>
     ensures { number_of result ≡ chain_refusal part x row }
 {
     let count = row.count;
-    let first = row.states[0];
-    let mut earlier = chip::answer::lines(part, false, first);
+    let mut earlier = chip::answer::lines(part, false, row.states[0]);
     let mut started = true;
     let mut least: Option<Refusal> = None;
-    let mut i: usize = 0;
-    while i < count {
+    for i in 0..count {
         let s = row.states[i];
         let later = row.states[place_after(i)];
         let p = wire_part(part, x, count, i, earlier, later);
         least = links::refuse::least(least, refusals::refuse::refusal(part, p, s));
         started = started & s.started;
         earlier = chip::answer::lines(part, false, s);
-        i += 1;
     }
     links::refuse::refusal(x, started, least)
 }
