@@ -27,7 +27,7 @@ impl fmt::Display for Mode {
 #[derive(Drop)]
 pub(crate) struct Bench<'a, P: Print> {
     pub(crate) out: &'a P,
-    pub(crate) part: Part,
+    part: Part,
     pub(crate) mode: Mode,
     pub(crate) memory: &'a mut [u32],
     state: State,
@@ -48,7 +48,14 @@ impl<'a, P: Print> Bench<'a, P> {
         }
     }
 
-    // Parts and paper authority.
+    // Parts and paper authority: the number and the depth.
+    pub(crate) fn number(&self) -> u32 {
+        match self.part {
+            Part::Idt72V255LA => 255,
+            Part::Idt72V265LA => 265,
+        }
+    }
+
     pub(crate) fn depth(&self) -> u32
         ensures least { 8192 ≤ result }
         ensures most { result ≤ 16384 }
@@ -140,9 +147,9 @@ impl<'a, P: Print> Bench<'a, P> {
     }
 
     fn sample(&mut self, pins: Pins, handed: Handed) {
-        let number = handed.number_of(self.part);
-        let state = handed.state_of(self.state);
-        let words = handed.words_of(self.memory.len());
+        let number = handed.number_by(self.number());
+        let state = handed.state_by(self.state);
+        let words = handed.words_by(self.memory.len());
         let sampled = fifo::sample::sample(
             number,
             record_of(pins),
@@ -155,7 +162,7 @@ impl<'a, P: Print> Bench<'a, P> {
 
     // A figure's line: part, mode and name of the case, a blank, and the outcome.
     fn show(&self, handed: Handed, label: Label, outcome: Outcome) -> io::Result<()> {
-        let number = handed.number_of(self.part);
+        let number = handed.number_by(self.number());
         let mode = self.mode;
         print!(self.out; "{number}-{mode}-{label} ")?;
         match outcome {
@@ -166,15 +173,14 @@ impl<'a, P: Print> Bench<'a, P> {
 }
 
 impl Handed {
-    pub(crate) fn number_of(self, part: Part) -> u32 {
-        match (self, part) {
-            (Handed::OtherPart, _) => 256,
-            (_, Part::Idt72V255LA) => 255,
-            (_, Part::Idt72V265LA) => 265,
+    fn number_by(self, own: u32) -> u32 {
+        match self {
+            Handed::OtherPart => 256,
+            _ => own,
         }
     }
 
-    fn state_of(self, left: State) -> State {
+    fn state_by(self, left: State) -> State {
         let mut state = left;
         if let Handed::Output(output) = self {
             state.read.output = output;
@@ -182,7 +188,7 @@ impl Handed {
         state
     }
 
-    fn words_of(self, words: usize) -> usize
+    fn words_by(self, words: usize) -> usize
         ensures { result ≤ words }
     {
         match self {

@@ -1,6 +1,5 @@
 // What is turned away, on whole traces: where a run ends, and with which number.
 use super::bench::Bench;
-use super::steps::Handed;
 use std::{fmt, io};
 
 const RESET_AND_TWO_BYTES: [u8; 6] = [0x4D, 0x98, 0x00, 0x00, 0xC7, 0x98];
@@ -44,7 +43,7 @@ fn print_run(
     name: &str,
     trace: &[u8],
 ) -> io::Result<()> {
-    let number = Handed::Own.number_of(bench.part);
+    let number = bench.number();
     let state = chip::reset::power_up();
     let mut answers = [0u8; 6];
     let mut marks = [0u8; 2];

@@ -21,7 +21,7 @@ fn next() -> Step {
     steps::read(1).at_once()
 }
 
-// A word that the read side sees, and both clocks LOW: a rise of RCLK can read it.
+// After a word that the read side sees, and both clocks LOW: a rise of RCLK can read it.
 fn print_refusal(
     bench: &mut Bench<impl Print>,
     number: u32,
