@@ -1,5 +1,5 @@
 // What the loop over the chunks asks of a model.
-ghost use Rattle.std.specs.Prelude.{◌*◌, ◌^◌, ◌<◌};
+ghost use Rattle.std.specs.Prelude.{◌^◌, ◌<◌};
 
 use input::chunks::RECORDS;
 use lines::records::Shown;
@@ -43,5 +43,5 @@ pub trait Traced<const BYTES: usize, const ANSWERS: usize> {
     }
 
     // No array is longer.
-    ghost sized: { (BYTES * 1 < 2 ^ 63) × (ANSWERS * 1 < 2 ^ 63) };
+    ghost sized: { (BYTES < 2 ^ 63) × (ANSWERS < 2 ^ 63) };
 }
