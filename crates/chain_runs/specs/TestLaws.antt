@@ -17,7 +17,7 @@ use Rattle.counts.specs.declared.part.Lookup.TheVariants.{Known, Unknown}
 use Rattle.counts.specs.declared.part.Part.{Part}
 use Rattle.counts.specs.Part.{by_part, depth_of, part_of}
 use Rattle.fifo.specs.NumberLaws.{asked_by, known, same_depth, words_in}
-use Rattle.chain_runs.specs.declared.testing.Verdict.TheVariants.{Passed, Refused}
+use Rattle.chain_runs.specs.Test.{Passed, Refused}
 use Rattle.chain_runs.specs.Test.{known_test, several, test_of}
 
 module _ (number : ℕ) (row : Row) (words : ℕ) (roomy : Bool) {looked : Lookup} (l : looked ≡ part_of number) where
