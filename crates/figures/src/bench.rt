@@ -1,7 +1,8 @@
 // One part on the bench, clocked by the rows of a scene.
 use super::{print, rows};
 use chip::state::State;
-use fifo::sample::{Outcome, Sampled};
+use fifo::sample::Sampled;
+use refusal_kinds::Refusal;
 use std::io;
 
 // From power-up. The names stand in the order of the rows that are shown, each with an end of line.
@@ -47,7 +48,7 @@ pub(crate) fn play(
 
 fn power_up() -> Sampled {
     Sampled {
-        outcome: Outcome::Refused(0),
+        outcome: Err(Refusal::NoMasterReset),
         state: chip::reset::power_up(),
     }
 }

@@ -1,6 +1,6 @@
 // A figure's line: part, mode and name of the case, a blank, and the outcome.
 use super::rows;
-use fifo::sample::Outcome;
+use refusal_kinds::Refusal;
 use std::io;
 
 // The line of a row that is shown, by the name that begins at `from`; the place of the next name.
@@ -12,7 +12,7 @@ pub(crate) fn print_row(
     words: u32,
     names: &[u8],
     from: usize,
-    outcome: Outcome,
+    outcome: Result<u32, Refusal>,
 ) -> io::Result<usize> {
     if !rows::has(row, rows::SHOWN + rows::NUMBERED) {
         return Ok(from);
@@ -70,10 +70,10 @@ fn print_name(out: &impl Print, names: &[u8], from: usize) -> io::Result<usize> 
     Ok(at)
 }
 
-fn print_outcome(out: &impl Print, outcome: Outcome) -> io::Result<()> {
+fn print_outcome(out: &impl Print, outcome: Result<u32, Refusal>) -> io::Result<()> {
     match outcome {
-        Outcome::Taken(answer) => print_answer(out, answer),
-        Outcome::Refused(number) => print_refusal(out, number),
+        Ok(answer) => print_answer(out, answer),
+        Err(refusal) => print_refusal(out, refusal),
     }
 }
 
@@ -91,9 +91,9 @@ fn print_answer(out: &impl Print, answer: u32) -> io::Result<()> {
     out.write_all(&line)
 }
 
-fn print_refusal(out: &impl Print, number: u8) -> io::Result<()> {
+fn print_refusal(out: &impl Print, refusal: Refusal) -> io::Result<()> {
     out.write_all(b" refused ")?;
-    out.print(number)?;
+    out.print(refusal.number())?;
     out.write_all(b"\n")
 }
 
