@@ -2,7 +2,7 @@
 use Rattle.std.specs.Prelude.{ℕ, Bool, List, ◌≡◌}
 use Rattle.std.proofs.Common.{ap, ◌∙◌}
 use Rattle.chain_runs.specs.declared.run.Report.{Report}
-use Rattle.chain_runs.specs.declared.sample.Worked.{Worked}
+use Rattle.chain_runs.specs.Outcome.{Worked}
 use Rattle.chain_runs.specs.Run.{RunsRow, report_of}
 use Rattle.chain_runs.specs.Sample.{SamplesRow}
 use Rattle.rows.specs.declared.row.Row.{Row}

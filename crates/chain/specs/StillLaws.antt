@@ -6,8 +6,8 @@ use Rattle.std.proofs.Math.Bool.{not, cond}
 use Rattle.std.proofs.Common.{true≢false, sym, ap, subst, ◌∙◌}
 use Rattle.std.proofs.Math.Path.{refl}
 use Rattle.chain_runs.specs.declared.run.Report.{Report}
-use Rattle.chain_runs.specs.declared.testing.Verdict.{Verdict}
-use Rattle.chain_runs.specs.declared.testing.Verdict.TheVariants.{Passed, Refused as Away}
+use Rattle.chain_runs.specs.Test.{Verdict}
+use Rattle.chain_runs.specs.Test.{Passed, Refused as Away}
 use Rattle.chain_runs.specs.Run.{roomy_for, run_of}
 use Rattle.chain_runs.specs.Sample.{row_sampled}
 use Rattle.chain_runs.specs.Test.{by_test, test_of}

@@ -3,12 +3,13 @@
 #![tactic(auto)]
 
 ghost use Rattle.chain.specs.Chain.{Runs, Samples};
+ghost use Rattle.fifo.specs.Outcome.{in_numbers};
 ghost use Rattle.rows.specs.Row.{put_back, row_of};
 ghost use Rattle.std.specs.Prelude.{◌≡◌};
 
 use chain_runs::run::Report;
 use chip::state::State;
-use fifo::sample::Outcome;
+use refusal_kinds::Refusal;
 use rows::row::Row;
 
 fn load(states: &[State]) -> Row
@@ -29,8 +30,13 @@ fn store(states: &mut [State], row: Row)
     }
 }
 
-pub fn sample(part: u32, bytes: &[u8], states: &mut [State], memory: &mut [u32]) -> Outcome
-    ensures { Samples part bytes.now states.old memory.old result states.new memory.new }
+pub fn sample(
+    part: u32,
+    bytes: &[u8],
+    states: &mut [State],
+    memory: &mut [u32],
+) -> Result<u32, Refusal>
+    ensures { Samples part bytes.now states.old memory.old (in_numbers result) states.new memory.new }
 {
     let row = load(states);
     let worked = chain_runs::sample::sample(part, bytes, row, memory);

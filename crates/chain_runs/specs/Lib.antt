@@ -1,5 +1,6 @@
 pub mod Test
 pub mod TestLaws
+pub mod Outcome
 pub mod Sample
 pub mod SampleLaws
 pub mod Run

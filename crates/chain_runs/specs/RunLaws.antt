@@ -7,8 +7,8 @@ use Rattle.chain_work.specs.Work.{Progress, worked}
 use Rattle.counts.specs.Both.{both}
 use Rattle.counts.specs.declared.part.Part.{Part}
 use Rattle.notes.specs.Fold.{ended}
-use Rattle.chain_runs.specs.declared.testing.Verdict.{Verdict}
-use Rattle.chain_runs.specs.declared.testing.Verdict.TheVariants.{Passed, Refused}
+use Rattle.chain_runs.specs.Test.{Verdict}
+use Rattle.chain_runs.specs.Test.{Passed, Refused}
 use Rattle.chain_runs.specs.Run.{roomy_for, run_of}
 use Rattle.chain_runs.specs.Test.{test_of}
 

@@ -4,7 +4,7 @@ use Rattle.rows.specs.declared.row.Row.{Row}
 use Rattle.chain_work.specs.Records.{links_at}
 use Rattle.rows.specs.Step.{After, chain_stepped, turned_away}
 use Rattle.fifo.specs.Outcome.{Outcome, Refused, Taken}
-use Rattle.chain_runs.specs.declared.sample.Worked.{Worked}
+use Rattle.chain_runs.specs.Outcome.{Worked}
 use Rattle.chain_runs.specs.Test.{by_test, test_of}
 
 -- what a number, 0 for none, and an answer stand for

@@ -1,14 +1,16 @@
 -- Order 4: a run over one record is a sample.
 use Rattle.std.specs.Prelude.{ℕ, ◌^◌, ◌<◌, Bool, true, false, not, cond, List, [], ◌∷◌, ◌≢◌, ◌≡◌, eqb, get_or, length}
 use Rattle.std.proofs.Math.Path.{refl}
-use Rattle.std.proofs.Common.{sym, ap, ◌∙◌, arith}
+use Rattle.std.proofs.Common.{sym, ap, subst, ◌∙◌, arith}
 use borrow.Author.Tests.{eq-eqb, eqb-false, eqb-true, ne_eqb}
 use Rattle.rows.specs.declared.row.Row.{Row}
 use Rattle.chain_work.specs.declared.work.Ran.{Ran}
 use Rattle.chain_work.specs.Records.{links_at, whole_records}
 use Rattle.chain_work.specs.RecordsLaws.{end_told}
 use Rattle.rows.specs.Step.{After, Moving, chain_answer, chain_refusal, chain_stepped, moved_to, took, turned_away}
-use Rattle.rows.specs.StepLaws.{step_still, step_taken}
+use Rattle.counts.specs.Either.{either}
+use Rattle.refusal_kinds.specs.Numbers as refusals
+use Rattle.rows.specs.StepLaws.{chain_numbered, step_still, step_taken, step_told}
 use Rattle.chain_work.specs.Work.{Ended, Progress, at_end, ran_of, turn, worked}
 use Rattle.counts.specs.declared.part.Part.{Part}
 use Rattle.fifo.specs.Outcome.{Outcome, Refused, Taken}
@@ -18,9 +20,9 @@ use Rattle.notes.specs.Fold.{Ends, ended, folded, noted, started, stops}
 use Rattle.pins.specs.Answer.{put_answer}
 use Rattle.pins.specs.Laws.{laid}
 use Rattle.pins.specs.Trace.{items_from, joined}
-use Rattle.chain_runs.specs.declared.sample.Worked.{Worked}
-use Rattle.chain_runs.specs.declared.testing.Verdict.{Verdict}
-use Rattle.chain_runs.specs.declared.testing.Verdict.TheVariants.{Passed, Refused as Away}
+use Rattle.chain_runs.specs.Outcome.{Worked}
+use Rattle.chain_runs.specs.Test.{Verdict}
+use Rattle.chain_runs.specs.Test.{Passed, Refused as Away}
 use Rattle.chain_runs.specs.Sample.{Gives, outcome_by, row_sampled}
 use Rattle.chain_runs.specs.Test.{test_of}
 
@@ -77,6 +79,16 @@ module _ (part : Part) (bytes : List ℕ) (row : Row) (memory : List ℕ) (seven
   one_worked : worked false part bytes (start part (links_at bytes 0) row memory) ≡ ended_by (start part (links_at bytes 0) row memory) (chain_stepped part (links_at bytes 0) row memory)
   unfolding worked folded items_from
   one_worked = rw (clean, one) refl
+
+  -- what ended it, if a refusal did, is one of the table
+  pub end_numbered : {ran : Ran} {words answer marks : List ℕ} → Ends ran_of (worked false part bytes (start part (links_at bytes 0) row memory)) ran words answer marks
+      → refusals.number_of (refusals.of_number ran.refusal) ≡ ran.refusal
+  end_numbered e =
+      let Numbered : ℕ → Type 0 = λ n. refusals.number_of (refusals.of_number n) ≡ n in
+      let a = chain_stepped part (links_at bytes 0) row memory in
+      let told = subst Numbered (sym (step_told part (links_at bytes 0) row memory)) (chain_numbered part (links_at bytes 0) row) in
+      let there = one_worked in
+      rw (e.strict.result, there) (either (λ (end : Ended). Numbered end.refusal) (stops false (number_of a.outcome)) _ _ told refl)
 
   -- what the work on one record handed back
   pub sample_worked : {ran : Ran} {words answer marks : List ℕ} → Ends ran_of (worked false part bytes (start part (links_at bytes 0) row memory)) ran words answer marks

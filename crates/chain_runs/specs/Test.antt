@@ -1,11 +1,20 @@
 -- Order 4: what is turned away before any record is looked at, 1, 13, 2 and 3.
-use Rattle.std.specs.Prelude.{ℕ, ◌*◌, Bool, cond, ◌&&◌, eqb, leb}
+use Rattle.std.specs.Prelude.{ℕ, ◌*◌, Bool, cond, ◌&&◌, eqb, leb, Result, Ok, Err}
 use Rattle.rows.specs.declared.row.Row.{Row}
 use Rattle.rows.specs.Step.{passes_to}
 use Rattle.counts.specs.declared.part.Part.{Part}
 use Rattle.counts.specs.Part.{by_part, depth_of, part_of}
-use Rattle.chain_runs.specs.declared.testing.Verdict.{Verdict}
-use Rattle.chain_runs.specs.declared.testing.Verdict.TheVariants.{Passed, Refused}
+use Rattle.refusal_kinds.specs.declared.Refusal.{Refusal}
+use Rattle.refusal_kinds.specs.Numbers.{number}
+
+-- the part that is asked for, or a refusal's number
+pub data Verdict : Type 0 where
+  Passed : Part → Verdict
+  Refused : ℕ → Verdict
+
+abbrev pub in_numbers : Result Part Refusal → Verdict
+in_numbers (Ok part) = Passed part
+in_numbers (Err refusal) = Refused (number refusal)
 
 -- two to eight parts
 abbrev pub several : ℕ → Bool

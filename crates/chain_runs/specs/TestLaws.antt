@@ -15,7 +15,7 @@ use Rattle.counts.specs.Both.{both}
 use Rattle.counts.specs.declared.part.Part.{Part}
 use Rattle.counts.specs.Part.{by_part, depth_of, part_of}
 use Rattle.fifo.specs.NumberLaws.{asked_by, known, same_depth, words_in}
-use Rattle.chain_runs.specs.declared.testing.Verdict.TheVariants.{Passed, Refused}
+use Rattle.chain_runs.specs.Test.{Passed, Refused}
 use Rattle.chain_runs.specs.Test.{known_test, several, test_of}
 
 module _ (number : ℕ) (row : Row) (words : ℕ) (roomy : Bool) {looked : Option Part} (l : looked ≡ part_of number) where

@@ -2,7 +2,6 @@
 ghost use Rattle.chain_runs.specs.Run.{RunsRow, report_of};
 ghost use Rattle.std.specs.Prelude.{◌≡◌};
 
-use super::testing::Verdict;
 use chain_work::work::Ran;
 use rows::row::Row;
 
@@ -30,10 +29,8 @@ pub fn run(
     let roomy = notes::answers::is_roomy(lenient, whole * 3, whole, answers.len(), marks.len());
     let tested = super::testing::test(part, row, memory.len(), roomy);
     match tested {
-        Verdict::Passed(known) => {
-            chain_work::work::work(lenient, known, trace, row, memory, answers, marks)
-        }
-        Verdict::Refused(number) => chain_work::work::end_at(0, 0, number, row),
+        Ok(known) => { chain_work::work::work(lenient, known, trace, row, memory, answers, marks) }
+        Err(refusal) => chain_work::work::end_at(0, 0, refusal.number(), row),
     }
 }
 

@@ -1,26 +1,28 @@
 // One sample of a chain on a record of seven bytes: a run over that record alone.
+ghost use Rattle.chain_runs.specs.Outcome.{worked_in_numbers};
+ghost use Rattle.fifo.specs.Outcome.{Refused, in_numbers};
+ghost use Rattle.refusal_kinds.specs.Numbers.{number, number_of};
 ghost use Rattle.chain_runs.specs.Sample.{SamplesRow, outcome_by};
 ghost use Rattle.std.specs.Prelude.{◌≡◌};
 
-use super::testing::Verdict;
-use fifo::sample::Outcome;
+use refusal_kinds::Refusal;
 use rows::row::Row;
 
 #[derive(Clone, Copy)]
 pub struct Worked {
-    pub outcome: Outcome,
+    pub outcome: Result<u32, Refusal>,
     pub row: Row,
 }
 
 pub fn sample(part: u32, bytes: &[u8], row: Row, memory: &mut [u32]) -> Worked
-    ensures { SamplesRow part bytes.now row memory.old result memory.new }
+    ensures { SamplesRow part bytes.now row memory.old (worked_in_numbers result) memory.new }
 {
     let tested = super::testing::test(part, row, memory.len(), true);
     match tested {
-        Verdict::Refused(number) => turn_away(number, row),
-        Verdict::Passed(known) => {
+        Err(refusal) => turn_away(refusal, row),
+        Ok(known) => {
             if bytes.len() != 7 {
-                return turn_away(4, row);
+                return turn_away(Refusal::UnreadableRecord, row);
             }
             let mut answer = [0u8; 3];
             let mut none = [0u8; 1];
@@ -34,7 +36,7 @@ pub fn sample(part: u32, bytes: &[u8], row: Row, memory: &mut [u32]) -> Worked
                 &mut none[..0],
             );
             let word = pins::trace::word_of(0, answer[0], answer[1], answer[2]);
-            let outcome = outcome_by(ran.refusal, word);
+            let outcome = outcome_by(refusal_kinds::of_number(ran.refusal), word);
             let after = ran.row;
             Worked {
                 outcome: outcome,
@@ -44,22 +46,21 @@ pub fn sample(part: u32, bytes: &[u8], row: Row, memory: &mut [u32]) -> Worked
     }
 }
 
-fn turn_away(number: u8, row: Row) -> Worked
-    ensures { result ≡ record { outcome = Outcome.Refused number; row = row } }
+fn turn_away(refusal: Refusal, row: Row) -> Worked
+    ensures { worked_in_numbers result ≡ record { outcome = Refused (number refusal); row = row } }
 {
     Worked {
-        outcome: Outcome::Refused(number),
+        outcome: Err(refusal),
         row: row,
     }
 }
 
-fn outcome_by(number: u8, answer: u32) -> Outcome
-    ensures { result ≡ outcome_by number answer }
+fn outcome_by(refusal: Option<Refusal>, answer: u32) -> Result<u32, Refusal>
+    ensures { in_numbers result ≡ outcome_by (number_of refusal) answer }
 {
-    if number == 0 {
-        Outcome::Taken(answer)
-    } else {
-        Outcome::Refused(number)
+    match refusal {
+        None => Ok(answer),
+        Some(refusal) => Err(refusal),
     }
 }
 
@@ -69,7 +70,7 @@ pub fn row_of(worked: Worked) -> Row
     worked.row
 }
 
-pub fn outcome_of(worked: Worked) -> Outcome
+pub fn outcome_of(worked: Worked) -> Result<u32, Refusal>
     ensures { result ≡ worked.outcome }
 {
     worked.outcome

@@ -4,8 +4,8 @@ ghost use Rattle.std.specs.Prelude.{◌≤◌};
 use super::steps::{Handed, Label, Made, Step};
 use chip::state::State;
 use counts::part::Part;
-use fifo::sample::Outcome;
 use pins::record::Pins;
+use refusal_kinds::Refusal;
 use std::{fmt, io};
 
 #[derive(Clone, Copy, PartialEq, Eq)]
@@ -31,7 +31,7 @@ pub(crate) struct Bench<'a, P: Print> {
     pub(crate) mode: Mode,
     pub(crate) memory: &'a mut [u32],
     state: State,
-    outcome: Option<Outcome>,
+    outcome: Option<Result<u32, Refusal>>,
     word: u16,
 }
 
@@ -161,13 +161,16 @@ impl<'a, P: Print> Bench<'a, P> {
     }
 
     // A figure's line: part, mode and name of the case, a blank, and the outcome.
-    fn show(&self, handed: Handed, label: Label, outcome: Outcome) -> io::Result<()> {
+    fn show(&self, handed: Handed, label: Label, outcome: Result<u32, Refusal>) -> io::Result<()> {
         let number = handed.number_by(self.number());
         let mode = self.mode;
         print!(self.out; "{number}-{mode}-{label} ")?;
         match outcome {
-            Outcome::Taken(answer) => println!(self.out; "{answer:06X}"),
-            Outcome::Refused(refusal) => println!(self.out; "refused {refusal}"),
+            Ok(answer) => println!(self.out; "{answer:06X}"),
+            Err(refusal) => {
+                let refused = refusal.number();
+                println!(self.out; "refused {refused}")
+            }
         }
     }
 }

@@ -7,7 +7,7 @@ use Rattle.std.proofs.Common.{sym, ◌∙◌, arith}
 use Rattle.std.proofs.Math.ListN.{get_or-replicate, length-replicate}
 use borrow.Author.Tests.{eq-eqb, eqb-false, eqb-true, le-leb}
 use Rattle.chain.specs.ListLaws.{back_length, row_back, row_powered}
-use Rattle.chain_runs.specs.declared.testing.Verdict.TheVariants.{Passed}
+use Rattle.chain_runs.specs.Test.{Passed}
 use Rattle.chain_runs.specs.Sample.{row_sampled}
 use Rattle.chain_runs.specs.SampleLaws.{sample_other, sample_steps}
 use Rattle.chain_runs.specs.Test.{known_test, several, test_of}

@@ -2,7 +2,7 @@
 -- is refused 2 and moves nothing.
 use Rattle.std.specs.Prelude.{ℕ, ◌*◌, ◌≤◌, Bool, true, false, List, [], ◌∷◌, ◌≡◌, refl, length, take}
 use Rattle.std.proofs.Common.{true≢false, sym, ap, subst, ◌∙◌, le-leb, leb-true, arith}
-use Rattle.chain_runs.specs.declared.testing.Verdict.TheVariants.{Refused}
+use Rattle.chain_runs.specs.Test.{Refused}
 use Rattle.chain_runs.specs.Run.{run_of}
 use Rattle.chain_runs.specs.RunLaws.{run_passed, run_refused}
 use Rattle.chain_runs.specs.Test.{known_test, test_of}

@@ -1,7 +1,7 @@
 // Why a sample, a run or a call is turned away: a name for each number of the table.
 #![tactic(auto)]
 
-ghost use Rattle.refusal_kinds.specs.Numbers.{code_of, number, number_of};
+ghost use Rattle.refusal_kinds.specs.Numbers.{code_of, number, number_of, of_number};
 ghost use Rattle.std.specs.Prelude.{◌≡◌};
 
 #[derive(Clone, Copy, Debug, PartialEq, Eq)]
@@ -54,4 +54,33 @@ pub fn code_of(done: Result<(), Refusal>) -> u8
     ensures { result ≡ code_of done }
 {
     number_of(done.err())
+}
+
+// None for 0, and for a number that the table has not.
+pub fn of_number(number: u8) -> Option<Refusal>
+    ensures { result ≡ of_number number }
+{
+    let in_order = [
+        None,
+        Some(Refusal::UnknownPart),
+        Some(Refusal::WrongLength),
+        Some(Refusal::UnfitState),
+        Some(Refusal::UnreadableRecord),
+        Some(Refusal::NoMasterReset),
+        Some(Refusal::SeveralEnables),
+        Some(Refusal::MethodNotSelected),
+        Some(Refusal::UncleanRetransmit),
+        Some(Refusal::RetransmitTooFewOrMany),
+        Some(Refusal::WriteBeforeRetransmitSeen),
+        Some(Refusal::PinsDiffer),
+        Some(Refusal::UnsettledData),
+        Some(Refusal::WrongPartCount),
+        Some(Refusal::NotInChain),
+    ];
+    let place = number as usize;
+    if place < in_order.len() {
+        in_order[place]
+    } else {
+        None
+    }
 }

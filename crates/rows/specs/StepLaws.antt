@@ -1,6 +1,6 @@
 -- Order 4: what comes of a sample's number, and that a sample keeps what a run relies on.
 use Prim.Native.Nat.{ℕ, zero, suc, ◌*◌, ◌≤◌, ◌<◌}
-use Rattle.std.specs.Prelude.{Bool, not, cond, ◌||◌, List, ◌⊎◌, ◌≢◌, ◌≡◌, length}
+use Rattle.std.specs.Prelude.{Bool, not, cond, ◌&&◌, ◌||◌, List, ◌⊎◌, ◌≢◌, ◌≡◌, length, ltb}
 use Rattle.std.proofs.Math.Bool.{true, false, and-eq-true_iff, and-false}
 use Rattle.std.proofs.Common.{true≢false, sym, ◌∙◌, eq-eqb, eqb-true, le-leb, leb-true, ne_eqb, eq-or-lt_of_le, le_of_suc-le-suc, not-suc-le-zero, arith}
 use Rattle.std.proofs.Math.Logic.{inl, inr, ⊎_elim}
@@ -11,16 +11,20 @@ use Rattle.chip.specs.ResetLaws.{is_fwft}
 use Rattle.chip.specs.State.{passes, widths}
 use Rattle.counts.specs.declared.part.Part.{Part}
 use Rattle.counts.specs.Both.{both}
+use Rattle.counts.specs.Either.{either}
 use Rattle.counts.specs.Part.{depth_of}
 use Rattle.fifo.specs.Sample.{number_of}
 use Rattle.links.specs.declared.record.Links.{Links}
 use Rattle.links.specs.Record.{plain}
+use Rattle.links.specs.Refuse.{fourteen, least, whole_refusal}
 use Rattle.links.specs.RefuseLaws.{five_comes, least_told}
+use Rattle.refusal_kinds.specs.Numbers as refusals
+use Rattle.refusals.specs.RefusalLaws.{refusal_numbered}
 use Rattle.refusals.specs.Refuse.{refusal_of}
 use Rattle.rows.specs.declared.row.Row.{Row}
 use Rattle.rows.specs.Relied.{fits, widths_to}
 use Rattle.rows.specs.MoveLaws.{moved_count, moved_eight, moved_length, moved_widths}
-use Rattle.rows.specs.Step.{After, Moving, all_to, chain_refusal, chain_stepped, judged_to, moved_to, passes_part, passes_to, state_of, took, turned_away, wired_to}
+use Rattle.rows.specs.Step.{After, Moving, all_to, chain_refusal, chain_stepped, judged_to, moved_to, passes_part, passes_to, started_to, state_of, took, turned_away, wired_to}
 
 -- each of the first n passes the test, and nothing else is asked
 pub all_at : (test : State → Bool) (row : Row) (n i : ℕ) → all_to test row n ≡ true → i < n → test (state_of row i) ≡ true
@@ -151,3 +155,24 @@ module _ (part : Part) (x : Links) (row : Row) where
       ⊎_elim
       (λ first. ⊎_elim (λ none. inl (first ∙ none)) (λ by. inr (record { at = by.at; below = omega (arith, by.below); given = first ∙ by.given })) (judged_given n))
       (λ last. inr (record { at = n; below = omega arith; given = last })) (least_told (judged_to part x row n) (number_at n)).either
+
+-- each number of a chain has its refusal
+abbrev Numbered : ℕ → Type 0
+Numbered n = refusals.number_of (refusals.of_number n) ≡ n
+
+least_numbered : (one other : ℕ) → Numbered one → Numbered other → Numbered (least one other)
+unfolding least
+least_numbered one other a b = either Numbered (eqb one 0) other _ b (either Numbered (eqb other 0) one _ a (either Numbered (ltb one other) one other a b))
+
+module _ (part : Part) (x : Links) (row : Row) where
+  judged_numbered : (n : ℕ) → Numbered (judged_to part x row n)
+  unfolding judged_to
+  judged_numbered zero = refl
+  judged_numbered (suc n) = least_numbered (judged_to part x row n) _ (judged_numbered n) (refusal_numbered part (wired_to part x row n) (state_of row n))
+
+  pub chain_numbered : refusals.number_of (refusals.of_number (chain_refusal part x row)) ≡ chain_refusal part x row
+  unfolding chain_refusal whole_refusal
+  chain_numbered =
+      either Numbered (plain x.more) _ 4
+      (either Numbered (x.pins.mrs && not (started_to row row.count)) 5 _ refl
+      (either Numbered (fourteen x.pins) 14 _ refl (judged_numbered row.count))) refl
