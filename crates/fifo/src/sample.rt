@@ -125,6 +125,6 @@ fn turn_away(refusal: Refusal, state: State) -> Sampled
 {
     Sampled {
         outcome: Err(refusal),
-        state: state,
+        state,
     }
 }

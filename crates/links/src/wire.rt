@@ -1,8 +1,9 @@
 // What a part of a chain sees at its pins.
 ghost use Rattle.links.specs.Wire.{ends_of, wired};
-ghost use Rattle.std.specs.Prelude.{cond, ◌≡◌};
+ghost use Rattle.std.specs.Prelude.{◌≡◌};
 
 use super::record::Links;
+use counts::choice::pick;
 use pins::answer::Lines;
 use pins::record::{Pins, Skew};
 
@@ -26,20 +27,8 @@ pub fn wire(x: Links, marks: Skew, first: bool, last: bool, earlier: Lines, late
         oe: pick(last, p.oe, false),
         skew: marks,
         unsettled: pick(first, p.unsettled, false),
-        d: pick_word(first, p.d, earlier.q),
+        d: pick(first, p.d, earlier.q),
     }
-}
-
-fn pick(own: bool, level: bool, other: bool) -> bool
-    ensures { result ≡ cond own level other }
-{
-    if own { level } else { other }
-}
-
-fn pick_word(own: bool, word: u32, other: u32) -> u32
-    ensures { result ≡ cond own word other }
-{
-    if own { word } else { other }
 }
 
 // What the chain answers: IR and PAF of the first part, the rest of the last.

@@ -96,18 +96,13 @@ fn hold(part: Part, left: u32, right: u32, state: Halves) -> Sampled
 fn join(left: fifo::sample::Sampled, right: fifo::sample::Sampled) -> Sampled
     ensures { sampled_in_numbers result ≡ joined (fifo.sampled_in_numbers left) (fifo.sampled_in_numbers right) }
 {
-    let left_outcome = left.outcome;
-    let right_outcome = right.outcome;
-    let left_state = left.state;
-    let right_state = right.state;
+    let left_answer = fifo::outcome::answer_of(left.outcome);
+    let right_answer = fifo::outcome::answer_of(right.outcome);
     Sampled {
-        outcome: Ok((
-            fifo::outcome::answer_of(left_outcome),
-            fifo::outcome::answer_of(right_outcome),
-        )),
+        outcome: Ok((left_answer, right_answer)),
         state: Halves {
-            left: left_state,
-            right: right_state,
+            left: left.state,
+            right: right.state,
         },
     }
 }
@@ -117,6 +112,6 @@ fn turn_away(refusal: Refusal, state: Halves) -> Sampled
 {
     Sampled {
         outcome: Err(refusal),
-        state: state,
+        state,
     }
 }

@@ -14,9 +14,7 @@ turned states i other l e f = rw (add-one i) (rw (f, e, same_at states i other p
 
 pub loop-i-init : goal.loop-i-init
 unfolding loaded
-loop-i-init c = (omega arith, c.power_up-row.ensures)
+loop-i-init c = c.power_up-row.ensures
 
 pub loop-i-preserved : goal.loop-i-preserved
-loop-i-preserved c =
-    let below = c.loop-i-test.true in
-    (omega arith, turned c.args.states.now _ _ below c.loop-i.invariant.1 c.with_state-row.ensures)
+loop-i-preserved c = turned c.args.states.now _ _ (omega arith) c.loop-i.invariant c.with_state-row.ensures

@@ -1,4 +1,4 @@
-use Rattle.std.proofs.Common.{◌≡◌, ℕ, ◌+◌, ◌<◌, List, length, get_or, set, refl, add-one, arith, rules}
+use Rattle.std.proofs.Common.{◌≡◌, ℕ, ◌+◌, ◌<◌, List, length, get_or, set, refl, add-one, arith}
 use Rattle.chip.specs.declared.state.State.{State}
 use Rattle.rows.specs.declared.row.Row.{Row}
 use Rattle.rows.specs.Row.{chosen_of, stored_to}
@@ -14,9 +14,7 @@ turned row states left i other l e f = rw (add-one i) (rw (f, same_at left i oth
 
 pub loop-i-init : goal.loop-i-init
 unfolding stored_to
-loop-i-init c = (omega arith, refl)
+loop-i-init c = refl
 
 pub loop-i-preserved : goal.loop-i-preserved
-loop-i-preserved c =
-    let below = c.loop-i-test.true in
-    (search rules, turned c.args.row c.args.states.now c.loop-i.states _ _ below c.loop-i.invariant.1 c.chosen.ensures)
+loop-i-preserved c = turned c.args.row c.args.states.now c.loop-i.states _ _ (omega arith) c.loop-i.invariant c.chosen.ensures
