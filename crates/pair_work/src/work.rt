@@ -73,7 +73,10 @@ pub fn work(
 fn number_of(outcome: Result<(u32, u32), Refusal>) -> u8
     ensures { result ≡ number_of (in_numbers outcome) }
 {
-    refusal_kinds::number_of(outcome.err())
+    match outcome {
+        Ok(_) => 0,
+        Err(refusal) => refusal.number(),
+    }
 }
 
 fn note_answers(outcome: Result<(u32, u32), Refusal>, index: usize, answers: &mut [u8])

@@ -2,8 +2,8 @@
 ghost use Rattle.refusals.specs.Free.{free};
 ghost use Rattle.refusals.specs.Refuse.{Refuses, asks_unselected, from_six, refuses_eight, refuses_five, refuses_nine, refuses_seven, refuses_six, refuses_ten, refuses_twelve, retransmit_most, several_low};
 ghost use Rattle.counts.specs.Part.{depth_of};
-ghost use Rattle.refusal_kinds.specs.Numbers.{number_of};
-ghost use Rattle.std.specs.Prelude.{◌≡◌};
+ghost use Rattle.refusal_kinds.specs.Numbers.{number, number_of};
+ghost use Rattle.std.specs.Prelude.{cond, ◌≡◌};
 
 use chip::state::State;
 use counts::part::Part;
@@ -48,21 +48,25 @@ fn first_refusal(part: Part, p: Pins, s: State) -> Option<Refusal>
 fn refuse_from_six(part: Part, p: Pins, s: State) -> Option<Refusal>
     ensures { number_of result ≡ from_six part p s }
 {
-    if refuses_six(p, s) {
-        Some(Refusal::SeveralEnables)
-    } else if refuses_seven(p, s) {
-        Some(Refusal::MethodNotSelected)
-    } else if refuses_eight(p, s) {
-        Some(Refusal::UncleanRetransmit)
-    } else if refuses_nine(part, p, s) {
-        Some(Refusal::RetransmitTooFewOrMany)
-    } else if refuses_ten(p, s) {
-        Some(Refusal::WriteBeforeRetransmitSeen)
-    } else if refuses_twelve(p, s) {
-        Some(Refusal::UnsettledData)
-    } else {
-        None
-    }
+    let six = refuses_six(p, s);
+    let seven = refuses_seven(p, s);
+    let eight = refuses_eight(p, s);
+    let nine = refuses_nine(part, p, s);
+    let ten = refuses_ten(p, s);
+    let twelve = refuses_twelve(p, s);
+    let from_twelve = pick(twelve, Refusal::UnsettledData, None);
+    let from_ten = pick(ten, Refusal::WriteBeforeRetransmitSeen, from_twelve);
+    let from_nine = pick(nine, Refusal::RetransmitTooFewOrMany, from_ten);
+    let from_eight = pick(eight, Refusal::UncleanRetransmit, from_nine);
+    let from_seven = pick(seven, Refusal::MethodNotSelected, from_eight);
+    pick(six, Refusal::SeveralEnables, from_seven)
+}
+
+// No row branches: only so does the compiler unroll the loop over the two parts of a pair.
+fn pick(applies: bool, refusal: Refusal, otherwise: Option<Refusal>) -> Option<Refusal>
+    ensures { number_of result ≡ cond applies (number refusal) (number_of otherwise) }
+{
+    if applies { Some(refusal) } else { otherwise }
 }
 
 fn refuses_five(p: Pins, s: State) -> bool
