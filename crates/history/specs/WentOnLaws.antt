@@ -1,5 +1,5 @@
 -- A sample outside reset keeps what holds between the model and the onlooker's notes.
-use Rattle.std.specs.Prelude.{ℕ, ◌≤◌, ◌<◌, Bool, true, false, cond, List, [], ◌∷◌, ◌++◌, ◌≡◌, refl, get_or, length, set, take, Option, None}
+use Rattle.std.specs.Prelude.{ℕ, ◌≤◌, ◌<◌, Bool, true, false, cond, List, [], ◌∷◌, ◌++◌, ◌≡◌, refl, get_or, length, set, take, Option, None, Some}
 use Rattle.chip.specs.declared.advance.Put.{Put}
 use Rattle.std.proofs.Math.Path.{sym}
 use Rattle.std.proofs.Common.{◌∙◌}
