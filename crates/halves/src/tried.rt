@@ -65,8 +65,11 @@ fn try_each(part: Part, left: Trial, right: Trial) -> Trials
     ensures { result ≡ record { left = tried part left; right = tried part right } }
 {
     let mut both = [left, right];
-    for side in 0..2 {
-        both[side] = try_one(part, both[side]);
+    let mut side: usize = 0;
+    while side < 2 {
+        let trial = both[side];
+        both[side] = try_one(part, trial);
+        side += 1;
     }
     let [left, right] = both;
     Trials { left, right }

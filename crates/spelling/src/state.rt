@@ -16,6 +16,8 @@ use sides::write::WriteSide;
 // Nineteen digits and the number of serial bits, eleven numbers of 16 bits and two of 32; two bytes are left over.
 pub const STATE_BYTES: usize = 52;
 
+// In line, so that a caller reads the fields alone that it uses.
+#[inline(always)]
 #[tactic(auto, unfolding(crate::specs::Spelling::state_in))]
 pub fn read_state(bytes: &[u8]) -> State
     requires { length bytes.now ≡ state_bytes }

@@ -46,7 +46,8 @@ pub fn is_pae_low(table: Table, part: Part, n: u16, m: u16, words: u16) -> bool
     }
 }
 
-// The row that decides, where one does.
+// The row that decides, where one does. In line at each of its three calls, where the compiler then makes one test of row and column.
+#[inline(always)]
 fn row_at(table: Table, depth: u16, n: u16, m: u16, words: u16) -> Option<Row>
     requires { depth + 1 < 65536 }
     ensures row { IfSome result (λ row. (has_row depth n m words ≡ true) × (row ≡ row_at (beyond_memory table) depth n m words)) }
