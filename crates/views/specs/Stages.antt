@@ -1,5 +1,5 @@
 -- The two sides, on the stages: said once for both, by the kind of count that a side takes of the other.
-use Rattle.std.specs.Prelude.{Bool, true, false, not, cond, Option, None, Some}
+use Rattle.std.specs.Prelude.{Bool, false, not, cond, Option, None, Some}
 
 -- into the first stage: the other side's count before the sample, or, with the skew missed, the one that a remembered
 -- rise found
