@@ -8,7 +8,7 @@ pub fn low_first_at(bytes: &[u8], at: usize) -> u32
     requires { at + 3 < length bytes.now }
     ensures { result ≡ low_first_at bytes.now at }
 {
-    pins::trace::word_of(bytes[at + 3], bytes[at + 2], bytes[at + 1], bytes[at])
+    u32::from_le_bytes([bytes[at], bytes[at + 1], bytes[at + 2], bytes[at + 3]])
 }
 
 #[tactic(auto, unfolding(crate::specs::Bytes::half_at))]
