@@ -3,6 +3,7 @@ ghost use Rattle.chip.specs.Advance.{Advances, running, state_after, store_of};
 ghost use Rattle.chip.specs.State.{widths};
 ghost use Rattle.std.specs.Prelude.{true, ◌≡◌};
 
+use super::enables::Enables;
 use super::state::State;
 use counts::part::Part;
 use pins::record::Pins;
@@ -62,12 +63,18 @@ fn run(part: Part, p: Pins, fetched: u32, s: State) -> State
     let m = s.offsets.m;
     let write_rises = sides::clocks::write_rises(p, s.write);
     let read_rises = sides::clocks::read_rises(p, s.read);
+    let enables = super::enables::enables_after(p, s);
     State {
         write: sides::write::write_after(part, n, m, p, s.read, s.write),
         read: sides::read::read_after(part, n, m, p, fetched, s.write, s.read),
         offsets: offsets::loading::load(part, p, write_rises, s.offsets),
         reading: offsets::reading::read_offset(p, read_rises, s.offsets, s.reading),
-        enables: super::enables::enables_after(p, s),
+        enables: Enables {
+            rt: enables.rt,
+            ren: enables.ren,
+            wen: enables.wen,
+            clean: enables.clean,
+        },
         ..s
     }
 }

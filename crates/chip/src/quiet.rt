@@ -2,6 +2,7 @@
 ghost use Rattle.chip.specs.Quiet.{clock_rises, held, quiet};
 ghost use Rattle.std.specs.Prelude.{◌≡◌};
 
+use super::enables::Enables;
 use super::state::State;
 use pins::record::Pins;
 
@@ -22,10 +23,16 @@ pub fn is_quiet(p: Pins, s: State) -> bool
 pub fn hold(p: Pins, s: State) -> State
     ensures { result ≡ held p s }
 {
+    let enables = super::enables::enables_after(p, s);
     State {
         write: sides::write::hold(p.wclk, s.write.latest, s.write.view, s.write),
         read: sides::read::hold(p.rclk, s.read.latest, s.read),
-        enables: super::enables::enables_after(p, s),
+        enables: Enables {
+            rt: enables.rt,
+            ren: enables.ren,
+            wen: enables.wen,
+            clean: enables.clean,
+        },
         ..s
     }
 }

@@ -85,7 +85,12 @@ fn clear(
         },
         offsets,
         reading,
-        enables,
+        enables: Enables {
+            rt: enables.rt,
+            ren: enables.ren,
+            wen: enables.wen,
+            clean: enables.clean,
+        },
     }
 }
 

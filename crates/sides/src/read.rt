@@ -21,16 +21,17 @@ pub enum Mode {
 }
 
 // `level` is that of RCLK, `pae` that of PAE; `output` is the output register.
+// The mode stands apart from `setup` and `pae`: beside them its bytes would be packed with theirs, to be taken apart in every sample.
 #[derive(Clone, Copy, Debug, PartialEq, Eq)]
 pub struct ReadSide {
     pub level: bool,
     pub count: ReadCount,
+    pub mode: Mode,
     pub first: WriteCount,
     pub second: WriteCount,
     pub latest: Option<WriteCount>,
     pub setup: Setup,
     pub pae: bool,
-    pub mode: Mode,
     pub output: u32,
 }
 
