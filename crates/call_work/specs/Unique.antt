@@ -1,4 +1,4 @@
--- What counts as an answer proved: two outcomes that are those of one definition are the same in number and in every buffer.
+-- What counts as an answer proved: two results that are those of one definition are the same, and so is every buffer.
 use Rattle.std.specs.Prelude.{ℕ, List, ◌≡◌, Result}
 use Rattle.std.proofs.Common.{sym, ◌∙◌}
 use Rattle.refusal_kinds.specs.declared.Refusal.{Refusal}
@@ -6,13 +6,12 @@ use Rattle.refusal_kinds.specs.NumberLaws.{code_of_injective}
 use Rattle.refusal_kinds.specs.Numbers.{code_of}
 use Rattle.call_work.specs.Work.{Called, Gives}
 
-pub gives_unique : (c : Called) (a b : ℕ) (s t m n k l : List ℕ) → Gives c a s m k → Gives c b t n l → (a ≡ b) × (s ≡ t) × (m ≡ n) × (k ≡ l)
-gives_unique c a b s t m n k l f g =
-    (f.result ∙ sym g.result, f.spelled ∙ sym g.spelled, f.words ∙ sym g.words, f.room ∙ sym g.room)
-
--- and so are the results as the work hands them back
-pub gives_result_unique : (c : Called) (a b : Result (Unit {0}) Refusal) (s t m n k l : List ℕ) → Gives c (code_of a) s m k → Gives c (code_of b) t n l
+pub gives_unique : (c : Called) (a b : Result (Unit {0}) Refusal) (s t m n k l : List ℕ) → Gives c (code_of a) s m k → Gives c (code_of b) t n l
     → (a ≡ b) × (s ≡ t) × (m ≡ n) × (k ≡ l)
-gives_result_unique c a b s t m n k l f g =
-    let same = gives_unique c (code_of a) (code_of b) s t m n k l f g in
-    (code_of_injective a b same.0, same.1, same.2, same.3)
+gives_unique c a b s t m n k l f g =
+    (code_of_injective a b (f.result ∙ sym g.result), f.spelled ∙ sym g.spelled, f.words ∙ sym g.words, f.room ∙ sym g.room)
+
+-- and so are the codes that C gets
+pub gives_codes_unique : (c : Called) (a b : ℕ) (s t m n k l : List ℕ) → Gives c a s m k → Gives c b t n l → (a ≡ b) × (s ≡ t) × (m ≡ n) × (k ≡ l)
+gives_codes_unique c a b s t m n k l f g =
+    (f.result ∙ sym g.result, f.spelled ∙ sym g.spelled, f.words ∙ sym g.words, f.room ∙ sym g.room)

@@ -1,4 +1,4 @@
--- What counts as an answer proved, of parts in a row: two outcomes that meet an operation's promise are the same in result, in every state and in
+-- What counts as an answer proved, of parts in a row: two results that meet an operation's promise are the same, and so are every state and
 -- every room lent.
 use Rattle.std.specs.Prelude.{ℕ, Bool, List, ◌≡◌, Result}
 use Rattle.std.proofs.Common.{sym, ◌∙◌}
@@ -9,17 +9,16 @@ use Rattle.fifo.specs.OutcomeLaws.{in_numbers_injective}
 use Rattle.refusal_kinds.specs.declared.Refusal.{Refusal}
 use Rattle.chain.specs.Chain.{Runs, Samples}
 
-pub sample_unique : (number : ℕ) (bytes : List ℕ) (states : List State) (memory : List ℕ) (a b : Outcome) (s t : List State) (m n : List ℕ)
-    → Samples number bytes states memory a s m → Samples number bytes states memory b t n → (a ≡ b) × (s ≡ t) × (m ≡ n)
-sample_unique number bytes states memory a b s t m n f g =
-    (f.result ∙ sym g.result, f.parts ∙ sym g.parts, f.words ∙ sym g.words)
-
--- and so are the results as the operation hands them back
-pub sample_result_unique : (number : ℕ) (bytes : List ℕ) (states : List State) (memory : List ℕ) (a b : Result ℕ Refusal) (s t : List State) (m n : List ℕ)
+pub sample_unique : (number : ℕ) (bytes : List ℕ) (states : List State) (memory : List ℕ) (a b : Result ℕ Refusal) (s t : List State) (m n : List ℕ)
     → Samples number bytes states memory (in_numbers a) s m → Samples number bytes states memory (in_numbers b) t n → (a ≡ b) × (s ≡ t) × (m ≡ n)
-sample_result_unique number bytes states memory a b s t m n f g =
-    let same = sample_unique number bytes states memory (in_numbers a) (in_numbers b) s t m n f g in
-    (in_numbers_injective a b same.0, same.1, same.2)
+sample_unique number bytes states memory a b s t m n f g =
+    (in_numbers_injective a b (f.result ∙ sym g.result), f.parts ∙ sym g.parts, f.words ∙ sym g.words)
+
+-- and so are the numbers that the promise speaks of, whatever they are seen in
+pub sample_numbers_unique : (number : ℕ) (bytes : List ℕ) (states : List State) (memory : List ℕ) (a b : Outcome) (s t : List State) (m n : List ℕ)
+    → Samples number bytes states memory a s m → Samples number bytes states memory b t n → (a ≡ b) × (s ≡ t) × (m ≡ n)
+sample_numbers_unique number bytes states memory a b s t m n f g =
+    (f.result ∙ sym g.result, f.parts ∙ sym g.parts, f.words ∙ sym g.words)
 
 pub run_unique : (lenient : Bool) (number : ℕ) (bytes : List ℕ) (states : List State) (memory answers marks : List ℕ) (a b : Report)
     (s t : List State) (m n k l i j : List ℕ) → Runs lenient number bytes states memory answers marks a s m k i

@@ -1,6 +1,7 @@
 pub mod Test
 pub mod TestLaws
 pub mod Outcome
+pub mod OutcomeLaws
 pub mod Sample
 pub mod SampleLaws
 pub mod Run

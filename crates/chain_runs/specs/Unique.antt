@@ -1,4 +1,4 @@
--- What counts as an answer proved, of a row of parts: two outcomes that meet the promise of a sample or of a run are the same.
+-- What counts as an answer proved, of a row of parts: two results that meet the promise of a sample or of a run are the same.
 use Rattle.std.specs.Prelude.{ℕ, Bool, List, ◌≡◌}
 use Rattle.std.proofs.Common.{sym, ◌∙◌}
 use Rattle.fifo.specs.OutcomeLaws.{in_numbers_injective}
@@ -10,18 +10,18 @@ use Rattle.chain_runs.specs.Outcome.{Worked, worked_in_numbers}
 use Rattle.chain_runs.specs.Run.{RunsRow}
 use Rattle.chain_runs.specs.Sample.{SamplesRow}
 
-pub sample_unique : (number : ℕ) (bytes : List ℕ) (row : Row) (memory : List ℕ) (a b : Worked) (m n : List ℕ)
-    → SamplesRow number bytes row memory a m → SamplesRow number bytes row memory b n → (a ≡ b) × (m ≡ n)
+pub sample_unique : (number : ℕ) (bytes : List ℕ) (row : Row) (memory : List ℕ) (a b : code.Worked) (m n : List ℕ)
+    → SamplesRow number bytes row memory (worked_in_numbers a) m → SamplesRow number bytes row memory (worked_in_numbers b) n → (a ≡ b) × (m ≡ n)
 sample_unique number bytes row memory a b m n e f =
-    let outcome : a.outcome ≡ b.outcome = e.outcome ∙ sym f.outcome in
+    let outcome = in_numbers_injective a.outcome b.outcome (e.outcome ∙ sym f.outcome) in
     let after : a.row ≡ b.row = e.row ∙ sym f.row in
     ((λ i. record { outcome = outcome i; row = after i }), e.words ∙ sym f.words)
 
--- and so are the results as the operation hands them back
-pub sample_result_unique : (number : ℕ) (bytes : List ℕ) (row : Row) (memory : List ℕ) (a b : code.Worked) (m n : List ℕ)
-    → SamplesRow number bytes row memory (worked_in_numbers a) m → SamplesRow number bytes row memory (worked_in_numbers b) n → (a ≡ b) × (m ≡ n)
-sample_result_unique number bytes row memory a b m n e f =
-    let outcome = in_numbers_injective a.outcome b.outcome (e.outcome ∙ sym f.outcome) in
+-- and so are the numbers that the promise speaks of, whatever they are seen in
+pub sample_numbers_unique : (number : ℕ) (bytes : List ℕ) (row : Row) (memory : List ℕ) (a b : Worked) (m n : List ℕ)
+    → SamplesRow number bytes row memory a m → SamplesRow number bytes row memory b n → (a ≡ b) × (m ≡ n)
+sample_numbers_unique number bytes row memory a b m n e f =
+    let outcome : a.outcome ≡ b.outcome = e.outcome ∙ sym f.outcome in
     let after : a.row ≡ b.row = e.row ∙ sym f.row in
     ((λ i. record { outcome = outcome i; row = after i }), e.words ∙ sym f.words)
 

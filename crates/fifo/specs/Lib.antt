@@ -1,3 +1,4 @@
+pub mod NameLaws
 pub mod NumberLaws
 pub mod Outcome
 pub mod OutcomeLaws

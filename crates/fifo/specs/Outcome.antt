@@ -9,9 +9,13 @@ pub data Outcome : Type 0 where
   Taken : ℕ → Outcome
   Refused : ℕ → Outcome
 
+-- whatever a refusal is told as
+abbrev pub seen : {A : Type 0} → (A → ℕ) → Result ℕ A → Outcome
+seen told (Ok answer) = Taken answer
+seen told (Err refusal) = Refused (told refusal)
+
 abbrev pub in_numbers : Result ℕ Refusal → Outcome
-in_numbers (Ok answer) = Taken answer
-in_numbers (Err refusal) = Refused (number refusal)
+in_numbers = seen number
 
 -- and the state that comes with it
 pub record Sampled : Type 0 where

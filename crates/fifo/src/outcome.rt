@@ -1,18 +1,21 @@
-// What an outcome stands for, by its cases.
-ghost use Rattle.fifo.specs.Outcome.{in_numbers};
+// What an outcome stands for, by its cases; its refusal may be told by name or by number.
+ghost use Rattle.fifo.specs.Outcome.{seen};
 ghost use Rattle.fifo.specs.Sample.{answer_in, number_of};
 ghost use Rattle.std.specs.Prelude.{◌≡◌};
 
-use refusal_kinds::Refusal;
+use refusal_kinds::Told;
 
-pub fn number_of(outcome: Result<u32, Refusal>) -> u8
-    ensures { result ≡ number_of (in_numbers outcome) }
+pub fn number_of<T: Told>(outcome: Result<u32, T>) -> u8
+    ensures { result ≡ number_of (seen T.told outcome) }
 {
-    refusal_kinds::number_of(outcome.err())
+    match outcome {
+        Ok(_) => 0,
+        Err(refusal) => refusal.to_number(),
+    }
 }
 
-pub fn answer_of(outcome: Result<u32, Refusal>) -> u32
-    ensures { result ≡ answer_in (in_numbers outcome) }
+pub fn answer_of<T: Told>(outcome: Result<u32, T>) -> u32
+    ensures { result ≡ answer_in (seen T.told outcome) }
 {
     outcome.unwrap_or(0)
 }

@@ -1,23 +1,21 @@
 // What is turned away of two records for two parts side by side: 11, and then each part's own number.
 ghost use Rattle.joint.specs.Refuse.{numbered, same_pins};
-ghost use Rattle.refusal_kinds.specs.Numbers.{number_of};
 ghost use Rattle.std.specs.Prelude.{◌≡◌};
 
-use refusal_kinds::Refusal;
+use refusal_kinds::{Refusal, Told};
 
 // The first refusal that applies, by what each half's own table gives.
-pub fn refusal(
-    left: u32,
-    right: u32,
-    by_left: Option<Refusal>,
-    by_right: Option<Refusal>,
-) -> Option<Refusal>
-    ensures { number_of result ≡ numbered (same_pins left right) (number_of by_left) (number_of by_right) }
+pub fn refusal<T: Told>(left: u32, right: u32, by_left: T, by_right: T) -> T
+    ensures { T.told result ≡ numbered (same_pins left right) (T.told by_left) (T.told by_right) }
 {
     if is_same_pins(left, right) {
-        by_left.or(by_right)
+        if by_left.to_number() == 0 {
+            by_right
+        } else {
+            by_left
+        }
     } else {
-        Some(Refusal::PinsDiffer)
+        T::of_refusal(Refusal::PinsDiffer)
     }
 }
 

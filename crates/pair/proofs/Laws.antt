@@ -7,6 +7,7 @@ use lib.ListN.{length}
 use Rattle.std.specs.Prelude.{None, Option, Some}
 use Rattle.counts.specs.declared.part.Part.{Part}
 use Rattle.counts.specs.Part.{part_of}
+use Rattle.fifo.specs.NameLaws as by_table
 use Rattle.fifo.specs.Outcome as fifo
 use Rattle.fifo.specs.Sample as single
 use Rattle.fifo.specs.Sample.{record_refusal}
@@ -14,7 +15,6 @@ use Rattle.refusal_kinds.specs.Numbers as refusals
 use Rattle.pair.specs.Outcome.{Sampled}
 use Rattle.chip.specs.declared.state.State.{State}
 use Rattle.pins.specs.Record.{pins_of}
-use Rattle.refusals.specs.RefusalLaws as by_table
 use Rattle.halves.specs.declared.state.Halves.{Halves}
 use Rattle.halves.specs.declared.tried.Trials.{Trials}
 use Rattle.joint.specs.Refuse.{numbered, same_pins}

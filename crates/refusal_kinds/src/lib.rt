@@ -2,7 +2,7 @@
 #![tactic(auto)]
 
 ghost use Rattle.refusal_kinds.specs.Numbers.{code_of, number, number_of, of_number};
-ghost use Rattle.std.specs.Prelude.{◌≡◌};
+ghost use Rattle.std.specs.Prelude.{◌≡◌, ℕ};
 
 #[derive(Clone, Copy, Debug, PartialEq, Eq)]
 pub enum Refusal {
@@ -37,6 +37,54 @@ impl Refusal {
         ensures { result ≡ number self }
     {
         self as u8
+    }
+}
+
+// What may be turned away, told by its name or by its number alone. Where several are told, the one that counts is found by number, so
+// that a number which the table has not is handed on like any other.
+pub trait Told: Copy {
+    ghost told: { Self → ℕ };
+
+    fn to_number(self) -> u8
+        ensures { result ≡ told self };
+
+    fn of_refusal(refusal: Refusal) -> Self
+        ensures { told result ≡ number refusal };
+}
+
+impl Told for Refusal {
+    ghost told = { number };
+
+    fn to_number(self) -> u8 {
+        self.number()
+    }
+
+    fn of_refusal(refusal: Refusal) -> Refusal {
+        refusal
+    }
+}
+
+impl Told for Option<Refusal> {
+    ghost told = { number_of };
+
+    fn to_number(self) -> u8 {
+        number_of(self)
+    }
+
+    fn of_refusal(refusal: Refusal) -> Option<Refusal> {
+        Some(refusal)
+    }
+}
+
+impl Told for u8 {
+    ghost told = { λ n. n };
+
+    fn to_number(self) -> u8 {
+        self
+    }
+
+    fn of_refusal(refusal: Refusal) -> u8 {
+        refusal.number()
     }
 }
 

@@ -14,7 +14,6 @@ use Rattle.sides.specs.Tracks.{Allowed}
 use Rattle.views.specs.TrueCounts.{TrueCounts}
 use Rattle.chip.specs.declared.state.State.{State}
 use Rattle.chip.specs.Tells.{both, fails, high, high_where, low, three, write_rise}
-use Rattle.refusal_kinds.specs.Numbers.{number_of, of_number}
 use Rattle.refusals.specs.Refuse.{asks_unselected, refusal_of, refuses_eight, refuses_five, refuses_nine, refuses_seven, refuses_six, refuses_ten, refuses_twelve}
 use Rattle.refusals.specs.RowLaws.{first_by, retransmit, row_ten, tells_eight, tells_seven, tells_six}
 use Rattle.refusals.specs.Rows.{FirstRow, Given, most_words}
@@ -39,10 +38,6 @@ unfolding refusal_of
 numbers P part p s =
     numbers_by P (refuses_five p s) (p.mrs && p.prs) (refuses_six p s) (refuses_seven p s) (refuses_eight p s)
     (refuses_nine (depth_of part) p s) (refuses_ten p s) (refuses_twelve p s)
-
--- each number of the table has its refusal
-pub refusal_numbered : (part : Part) (p : Pins) (s : State) → number_of (of_number (refusal_of part p s)) ≡ refusal_of part p s
-refusal_numbered part p s = numbers (λ n. number_of (of_number n) ≡ n) part p s refl refl refl refl refl refl refl (λ e. refl)
 
 -- a row that did not give the number does not hold
 passed : {Row Further : Type 0} {number : ℕ} → Given 0 (suc number) Row Further → (¬ Row) × Further

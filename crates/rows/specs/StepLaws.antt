@@ -13,13 +13,13 @@ use Rattle.counts.specs.declared.part.Part.{Part}
 use Rattle.counts.specs.Both.{both}
 use Rattle.counts.specs.Either.{either}
 use Rattle.counts.specs.Part.{depth_of}
+use Rattle.fifo.specs.NameLaws.{refusal_numbered}
 use Rattle.fifo.specs.Sample.{number_of}
 use Rattle.links.specs.declared.record.Links.{Links}
 use Rattle.links.specs.Record.{plain}
 use Rattle.links.specs.Refuse.{fourteen, least, whole_refusal}
 use Rattle.links.specs.RefuseLaws.{five_comes, least_told}
 use Rattle.refusal_kinds.specs.Numbers as refusals
-use Rattle.refusals.specs.RefusalLaws.{refusal_numbered}
 use Rattle.refusals.specs.Refuse.{refusal_of}
 use Rattle.rows.specs.declared.row.Row.{Row}
 use Rattle.rows.specs.Relied.{fits, widths_to}
@@ -168,7 +168,7 @@ module _ (part : Part) (x : Links) (row : Row) where
   judged_numbered : (n : ℕ) → Numbered (judged_to part x row n)
   unfolding judged_to
   judged_numbered zero = refl
-  judged_numbered (suc n) = least_numbered (judged_to part x row n) _ (judged_numbered n) (refusal_numbered part (wired_to part x row n) (state_of row n))
+  judged_numbered (suc n) = least_numbered (judged_to part x row n) _ (judged_numbered n) (refusal_numbered part _ _)
 
   pub chain_numbered : refusals.number_of (refusals.of_number (chain_refusal part x row)) ≡ chain_refusal part x row
   unfolding chain_refusal whole_refusal

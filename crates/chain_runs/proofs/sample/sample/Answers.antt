@@ -1,6 +1,4 @@
 use Rattle.std.proofs.Common.{◌≡◌, length, refl, sym, ◌∙◌, ap, arith, rules}
-use Rattle.refusal_kinds.specs.Numbers.{number_of}
-use Rattle.chain_runs.specs.Sample.{outcome_by}
 use Rattle.chain_runs.specs.Test.{in_numbers}
 use Rattle.chain_runs.specs.SampleLaws.{end_numbered, gives_by, sample_other, sample_refused, sample_steps, sample_worked, turned_away_lem}
 use Rattle.chain_runs.specs.TestLaws.{passing, passing_fits}
