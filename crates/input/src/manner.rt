@@ -34,8 +34,13 @@ fn is_given(env: &impl Env, i: usize) -> bool {
     !matches!(env.arg(i, &mut start), Err(FillError::NotPresent))
 }
 
-// There is nothing to be done where nobody takes the complaint.
+// There is nothing to be done where nobody takes the complaint. What is wrong goes out in one write, with the end of its line.
 pub fn complain<W: Write>(err: &mut W, program: &[u8]) {
+    let mut room = [0u8; 80];
+    let mut rest = &mut room[..];
+    let _ = writeln!(rest, ": {UnknownArguments}");
+    let left = rest.len();
+    let end = room.len().saturating_sub(left);
     let _ = err.write_all(program);
-    let _ = writeln!(err, ": {UnknownArguments}");
+    let _ = err.write_all(&room[..end]);
 }
