@@ -6,7 +6,7 @@ use halves::state::Halves;
 use input::chunks::RECORDS;
 use input::manner::Manner;
 use lines::records::Shown;
-use trace_program::traced::{Chunk, Ran, Traced};
+use trace_program::traced::{Ran, Traced};
 
 const BYTES: usize = RECORDS * 8;
 
@@ -19,7 +19,7 @@ pub(crate) struct LentPair<'a> {
     pub(crate) number: u32,
     pub(crate) left: &'a mut [u32],
     pub(crate) right: &'a mut [u32],
-    pub(crate) flags: &'a mut [u8],
+    pub(crate) flags: &'a mut [u8; RECORDS * 2],
 }
 
 impl Traced<BYTES, ANSWERS> for LentPair<'_> {
@@ -57,7 +57,13 @@ impl Traced<BYTES, ANSWERS> for LentPair<'_> {
         }
     }
 
-    fn show<'a>(&'a mut self, before: Halves, chunk: Chunk<'a>) -> Shown<'a> {
-        composites::show(before, chunk, self.flags)
+    fn show<'a>(
+        &'a mut self,
+        before: Halves,
+        trace: &[u8; BYTES],
+        answers: &'a [u8; ANSWERS],
+        marks: &[u8],
+    ) -> Shown<'a> {
+        composites::show(before, trace, answers, marks, self.flags)
     }
 }

@@ -1,5 +1,5 @@
 // The trace worked chunk by chunk.
-use super::traced::{Chunk, Traced};
+use super::traced::Traced;
 use input::chunks;
 use input::chunks::RECORDS;
 use lines::records;
@@ -49,16 +49,12 @@ fn work_chunk<const BYTES: usize, const ANSWERS: usize, M: Traced<BYTES, ANSWERS
     let mut marks = [0u8; RECORDS];
     let came = chunks::read(input, &mut trace);
     let ran = model.run(&trace[..came], before.state, &mut answers, &mut marks);
-    let chunk = Chunk {
-        trace: &trace[..came],
-        answers: &answers,
-        // No run goes past its chunk; one compare spares a law that says so.
-        marks: &marks[..ran.index.min(RECORDS)],
-    };
+    // No run goes past its chunk; one compare spares a law that says so.
+    let marks = &marks[..ran.index.min(RECORDS)];
     let lines = Lines {
         base: before.tally.records,
-        shown: model.show(before.state, chunk),
-        marks: chunk.marks,
+        shown: model.show(before.state, &trace, &answers, marks),
+        marks,
     };
     let printed = lines.print(out, room).is_ok();
     let last = chunks::is_last(came, BYTES, printed);

@@ -13,15 +13,6 @@ pub struct Ran<S> {
     pub refusal: u8,
 }
 
-// A chunk that was run, and what the run wrote down of each of its records: an answer, and a mark, the number under which it was
-// refused, 0 where there is an answer.
-#[derive(Clone, Copy)]
-pub struct Chunk<'a> {
-    pub trace: &'a [u8],
-    pub answers: &'a [u8],
-    pub marks: &'a [u8],
-}
-
 // BYTES are those of a chunk's records, ANSWERS those of their answers.
 pub trait Traced<const BYTES: usize, const ANSWERS: usize> {
     type State: Copy;
@@ -37,9 +28,17 @@ pub trait Traced<const BYTES: usize, const ANSWERS: usize> {
         marks: &mut [u8; RECORDS],
     ) -> Ran<Self::State>;
 
-    // What the lines of a chunk show, by the state before it.
-    fn show<'a>(&'a mut self, _before: Self::State, chunk: Chunk<'a>) -> Shown<'a> {
-        Shown::Answer(chunk.answers)
+    // What the lines of a chunk show, by the state before it and by what the run wrote down of each of its records: an answer, and a
+    // mark, the number under which it was refused, 0 where there is an answer. Trace and answers are the whole rooms, the marks those
+    // of the records that were run.
+    fn show<'a>(
+        &'a mut self,
+        _before: Self::State,
+        _trace: &[u8; BYTES],
+        answers: &'a [u8; ANSWERS],
+        _marks: &[u8],
+    ) -> Shown<'a> {
+        Shown::Answer(answers)
     }
 
     // No array is longer.
