@@ -122,9 +122,11 @@ impl<'a, P: Print> Bench<'a, P> {
         }
     }
 
+    // The number on the data lines, of 16 bits, goes up by one each time: where no word is asked for, it makes no difference.
     fn clock(&mut self, times: u32, pins: Pins, handed: Handed) {
-        for _ in 0..times {
-            self.rise(pins, handed);
+        for time in 0..times {
+            let moved = pins.d & 0xFFFF0000 | pins.d.wrapping_add(time) % 65536;
+            self.rise(Pins { d: moved, ..pins }, handed);
         }
     }
 
@@ -147,15 +149,23 @@ impl<'a, P: Print> Bench<'a, P> {
     }
 
     fn sample(&mut self, pins: Pins, handed: Handed) {
+        self.hand_in(record_of(pins), handed);
+    }
+
+    // A record as it stands, and its line.
+    pub(crate) fn play_record(&mut self, record: u32, label: Label) -> io::Result<()> {
+        self.hand_in(record, Handed::Own);
+        match self.outcome {
+            Some(outcome) => self.show(Handed::Own, label, outcome),
+            None => Ok(()),
+        }
+    }
+
+    fn hand_in(&mut self, record: u32, handed: Handed) {
         let number = handed.number_by(self.number());
         let state = handed.state_by(self.state);
         let words = handed.words_by(self.memory.len());
-        let sampled = fifo::sample::sample(
-            number,
-            record_of(pins),
-            state,
-            &mut self.memory[..words],
-        );
+        let sampled = fifo::sample::sample(number, record, state, &mut self.memory[..words]);
         self.state = sampled.state;
         self.outcome = Some(sampled.outcome);
     }

@@ -1,6 +1,7 @@
 // Bench figures, the listing.
 use super::bench::{Bench, Mode};
 use super::steps;
+use super::steps::Label;
 use counts::part::Part;
 use std::io;
 
@@ -12,7 +13,7 @@ const LISTING: [u32; 9] = [
 pub(crate) fn print_listing(out: &impl Print, memory: &mut [u32]) -> io::Result<()> {
     let mut bench = Bench::new(out, Part::Idt72V255LA, Mode::Standard, memory);
     for (number, &record) in (0..9).zip(&LISTING) {
-        bench.play_on(&[steps::recorded(record).numbered("listing", number)])?;
+        bench.play_record(record, Label::numbered("listing", number))?;
     }
     // The same nine records made from the pins' names: the other figures stand on these steps.
     bench.play(&[

@@ -40,6 +40,15 @@ pub(crate) struct Label {
     number: Option<u32>,
 }
 
+impl Label {
+    pub(crate) fn numbered(name: &'static str, number: u32) -> Label {
+        Label {
+            name,
+            number: Some(number),
+        }
+    }
+}
+
 impl fmt::Display for Label {
     fn fmt<W: fmt::Write>(&self, f: &mut fmt::Formatter<W>) -> fmt::Result {
         f.write_str(self.name)?;
@@ -94,10 +103,7 @@ impl Step {
     // The same, where several cases have one name.
     pub(crate) fn numbered(self, name: &'static str, number: u32) -> Step {
         Step {
-            shown: Some(Label {
-                name,
-                number: Some(number),
-            }),
+            shown: Some(Label::numbered(name, number)),
             ..self
         }
     }
@@ -148,10 +154,6 @@ const RETRANSMIT: Pins = Pins {
     rt: false,
     ..IDLE
 };
-
-pub(crate) fn recorded(record: u32) -> Step {
-    Step::new(pins::record::decode(record), Made::Once)
-}
 
 pub(crate) fn idle(times: u32) -> Step {
     Step::new(IDLE, Made::FromLow(times))
