@@ -48,7 +48,9 @@ fn first_refusal(part: Part, p: Pins, s: State) -> Option<Refusal>
 fn refuse_from_six(part: Part, p: Pins, s: State) -> Option<Refusal>
     ensures { number_of result ≡ from_six part p s }
 {
-    let six = refuses_six(p, s);
+    if refuses_six(p, s) {
+        return Some(Refusal::SeveralEnables);
+    }
     let seven = refuses_seven(p, s);
     let eight = refuses_eight(p, s);
     let nine = refuses_nine(part, p, s);
@@ -58,11 +60,10 @@ fn refuse_from_six(part: Part, p: Pins, s: State) -> Option<Refusal>
     let from_ten = pick(ten, Refusal::WriteBeforeRetransmitSeen, from_twelve);
     let from_nine = pick(nine, Refusal::RetransmitTooFewOrMany, from_ten);
     let from_eight = pick(eight, Refusal::UncleanRetransmit, from_nine);
-    let from_seven = pick(seven, Refusal::MethodNotSelected, from_eight);
-    pick(six, Refusal::SeveralEnables, from_seven)
+    pick(seven, Refusal::MethodNotSelected, from_eight)
 }
 
-// No row branches: only so does the compiler unroll the loop over the two parts of a pair.
+// No row after the first branches: only so does the compiler unroll the loop over the two parts of a pair.
 fn pick(applies: bool, refusal: Refusal, otherwise: Option<Refusal>) -> Option<Refusal>
     ensures { number_of result ≡ cond applies (number refusal) (number_of otherwise) }
 {
