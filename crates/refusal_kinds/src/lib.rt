@@ -1,6 +1,7 @@
 // Why a sample, a run or a call is turned away: a name for each number of the table.
 #![tactic(auto)]
 
+ghost use Rattle.refusal_kinds.specs.NumberLaws.{number_injective, number_of_injective};
 ghost use Rattle.refusal_kinds.specs.Numbers.{code_of, number, number_of, of_number};
 ghost use Rattle.std.specs.Prelude.{◌≡◌, ℕ};
 
@@ -50,10 +51,14 @@ pub trait Told: Copy {
 
     fn of_refusal(refusal: Refusal) -> Self
         ensures { told result ≡ number refusal };
+
+    ghost apart: { (one other : Self) → told one ≡ told other → one ≡ other };
 }
 
 impl Told for Refusal {
     ghost told = { number };
+
+    ghost apart = { λ one other e. number_injective one other e };
 
     fn to_number(self) -> u8 {
         self.number()
@@ -67,6 +72,8 @@ impl Told for Refusal {
 impl Told for Option<Refusal> {
     ghost told = { number_of };
 
+    ghost apart = { λ one other e. number_of_injective one other e };
+
     fn to_number(self) -> u8 {
         number_of(self)
     }
@@ -78,6 +85,8 @@ impl Told for Option<Refusal> {
 
 impl Told for u8 {
     ghost told = { λ n. n };
+
+    ghost apart = { λ one other e. e };
 
     fn to_number(self) -> u8 {
         self
