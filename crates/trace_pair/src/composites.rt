@@ -1,6 +1,6 @@
 // The composite flags of a chunk's samples, worked out from their records and answers once the run has written those down.
 ghost use Rattle.lines.specs.Flags.{noted};
-ghost use Rattle.std.specs.Prelude.{◌*◌, ◌+◌, ◌≡◌, ◌≤◌, length};
+ghost use Rattle.std.specs.Prelude.{◌*◌, ◌+◌, ◌<◌, ◌≡◌, ◌≤◌, length};
 
 use halves::state::Halves;
 use input::chunks::RECORDS;
@@ -15,19 +15,17 @@ pub(crate) fn show<'a>(
     marks: &[u8],
     flags: &'a mut [u8; RECORDS * 2],
 ) -> Shown<'a> {
-    let (samples, _) = trace.as_chunks::<8>();
-    let (both, _) = answers.as_chunks::<6>();
+    // No run goes past its chunk; one compare spares a law that says so.
+    let count = marks.len().min(RECORDS);
     // Both halves are in one mode: a run that works any sample has tested it.
     let mut mode = before.left.read.mode;
-    for (i, ((sample, answer), mark)) in samples.iter().zip(both).zip(marks).enumerate() {
+    for (i, mark) in marks[..count].iter().enumerate() {
         // Of a sample that was refused there is nothing to note.
         if *mark == 0 {
-            let [l0, l1, l2, r0, r1, r2] = *answer;
-            mode = composite::mode_after(mode, pins::trace::word_at(sample, 0));
-            let left = pins::trace::word_of(0, l0, l1, l2);
-            let right = pins::trace::word_of(0, r0, r1, r2);
-            let flag = composite::compose(mode, left, right);
-            note(flags, i, flag);
+            mode = composite::mode_after(mode, pins::trace::word_at(trace, i * 8));
+            let left = answer_at(answers, i * 6);
+            let right = answer_at(answers, i * 6 + 3);
+            note(flags, i, composite::compose(mode, left, right));
         }
     }
     Shown::FlagsAndTwoAnswers { flags, answers }
@@ -39,4 +37,10 @@ fn note(flags: &mut [u8], i: usize, flag: Composite)
     ensures { flags.new ≡ noted flags.old i flag.ff flag.ef }
 {
     lines::flags::note(flags, i, flag.ff, flag.ef);
+}
+
+fn answer_at(answers: &[u8], at: usize) -> u32
+    requires { at + 2 < length answers.now }
+{
+    pins::trace::word_of(0, answers[at], answers[at + 1], answers[at + 2])
 }
