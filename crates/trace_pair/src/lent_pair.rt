@@ -27,6 +27,8 @@ impl Traced<BYTES, ANSWERS> for LentPair<'_> {
 
     ghost sized = { Prim.search rules };
 
+    const SHOWS_ROOMS: bool = true;
+
     fn power_up(&self) -> Halves {
         halves::state::power_up()
     }
@@ -57,7 +59,7 @@ impl Traced<BYTES, ANSWERS> for LentPair<'_> {
         }
     }
 
-    fn show<'a>(
+    fn show_rooms<'a>(
         &'a mut self,
         before: Halves,
         trace: &[u8; BYTES],

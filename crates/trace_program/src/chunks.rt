@@ -1,5 +1,5 @@
 // The trace worked chunk by chunk.
-use super::traced::Traced;
+use super::traced::{Chunk, Traced};
 use input::chunks;
 use input::chunks::RECORDS;
 use lines::records;
@@ -51,9 +51,19 @@ fn work_chunk<const BYTES: usize, const ANSWERS: usize, M: Traced<BYTES, ANSWERS
     let ran = model.run(&trace[..came], before.state, &mut answers, &mut marks);
     // No run goes past its chunk; one compare spares a law that says so.
     let marks = &marks[..ran.index.min(RECORDS)];
+    let shown = if M::SHOWS_ROOMS {
+        model.show_rooms(before.state, &trace, &answers, marks)
+    } else {
+        let chunk = Chunk {
+            trace: &trace[..came],
+            answers: &answers,
+            marks,
+        };
+        model.show(before.state, chunk)
+    };
     let lines = Lines {
         base: before.tally.records,
-        shown: model.show(before.state, &trace, &answers, marks),
+        shown,
         marks,
     };
     let printed = lines.print(out, room).is_ok();

@@ -2,4 +2,6 @@
 #![tactic(auto)]
 
 pub mod chunks;
+#[cfg(test)]
+mod tests;
 pub mod traced;

@@ -1,5 +1,6 @@
 // What the loop over the chunks asks of a model.
-ghost use Rattle.std.specs.Prelude.{◌^◌, ◌<◌};
+ghost use Rattle.lines.specs.declared.records.Shown.TheVariants.{Answer};
+ghost use Rattle.std.specs.Prelude.{◌^◌, ◌<◌, ◌≡◌};
 
 use input::chunks::RECORDS;
 use lines::records::Shown;
@@ -11,6 +12,24 @@ pub struct Ran<S> {
     pub accepted: usize,
     pub index: usize,
     pub refusal: u8,
+}
+
+// A chunk that was run, and what the run wrote down of each of its records: an answer, and a mark, the number under which it was
+// refused, 0 where there is an answer.
+#[derive(Clone, Copy)]
+pub struct Chunk<'a> {
+    pub trace: &'a [u8],
+    pub answers: &'a [u8],
+    pub marks: &'a [u8],
+}
+
+impl<'a> Chunk<'a> {
+    // Promised here, since a clause on `Traced::show` would bind every model.
+    fn show_answers(self) -> Shown<'a>
+        ensures { result ≡ Answer self.entry.answers }
+    {
+        Shown::Answer(self.answers)
+    }
 }
 
 // BYTES are those of a chunk's records, ANSWERS those of their answers.
@@ -28,10 +47,18 @@ pub trait Traced<const BYTES: usize, const ANSWERS: usize> {
         marks: &mut [u8; RECORDS],
     ) -> Ran<Self::State>;
 
-    // What the lines of a chunk show, by the state before it and by what the run wrote down of each of its records: an answer, and a
-    // mark, the number under which it was refused, 0 where there is an answer. Trace and answers are the whole rooms, the marks those
-    // of the records that were run.
-    fn show<'a>(
+    // The loop asks `show`, or, where this is true, `show_rooms` in its place: a model that has one says so here.
+    const SHOWS_ROOMS: bool = false;
+
+    // What the lines of a chunk show, by the state before it. The chunk has as much of the trace as came, the whole room for answers,
+    // and the marks of the records that were run.
+    fn show<'a>(&'a mut self, _before: Self::State, chunk: Chunk<'a>) -> Shown<'a> {
+        chunk.show_answers()
+    }
+
+    // The same for a model that relies on the lengths of the rooms, which slices do not tell. Trace and answers are the whole rooms,
+    // the marks those of the records that were run.
+    fn show_rooms<'a>(
         &'a mut self,
         _before: Self::State,
         _trace: &[u8; BYTES],
