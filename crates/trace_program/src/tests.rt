@@ -19,6 +19,7 @@ const WHOLE_ROOM: [u8; ROOM] = [1, 2, 3, 4, 5, 6, 7, 8, 0];
 
 const ANSWERS: [u8; ROOM] = [0xAA; ROOM];
 
+// The states before the chunk and after it.
 const BEFORE: u8 = 5;
 
 const AFTER: u8 = 6;
@@ -35,10 +36,11 @@ fn take_all(trace: &[u8], answers: &mut [u8; ROOM]) -> Ran<u8> {
     }
 }
 
-// Shows the records in place of their answers. `SHOWS_ROOMS` is left out, as it may be.
+// Shows the records in place of their answers. `SHOWS_ROOMS` is left out, as it may be. Whether what it is handed agrees with what
+// came and what was run, it leaves in `agrees`, as the model below does.
 #[derive(Drop)]
 struct ByChunk<'a> {
-    right: &'a Cell<bool>,
+    agrees: &'a Cell<bool>,
 }
 
 impl Traced<ROOM, ROOM> for ByChunk<'_> {
@@ -63,14 +65,14 @@ impl Traced<ROOM, ROOM> for ByChunk<'_> {
     fn show<'a>(&'a mut self, before: u8, chunk: Chunk<'a>) -> Shown<'a> {
         let rooms = chunk.trace == CAME.as_slice() && chunk.answers == ANSWERS.as_slice();
         let marks = chunk.marks == [0, 0].as_slice();
-        self.right.set(before == BEFORE && rooms && marks);
+        self.agrees.set(before == BEFORE && rooms && marks);
         Shown::Answer(chunk.trace)
     }
 }
 
 #[derive(Drop)]
 struct ByRooms<'a> {
-    right: &'a Cell<bool>,
+    agrees: &'a Cell<bool>,
 }
 
 impl Traced<ROOM, ROOM> for ByRooms<'_> {
@@ -102,33 +104,9 @@ impl Traced<ROOM, ROOM> for ByRooms<'_> {
         marks: &[u8],
     ) -> Shown<'a> {
         let rooms = *trace == WHOLE_ROOM && *answers == ANSWERS;
-        self.right
+        self.agrees
             .set(before == BEFORE && rooms && marks == [0, 0].as_slice());
         Shown::Answer(answers)
-    }
-}
-
-// Shows nothing of its own.
-#[derive(Drop)]
-struct Silent;
-
-impl Traced<ROOM, ROOM> for Silent {
-    type State = u8;
-
-    ghost sized = { Prim.search rules };
-
-    fn power_up(&self) -> u8 {
-        BEFORE
-    }
-
-    fn run(
-        &mut self,
-        trace: &[u8],
-        _state: u8,
-        answers: &mut [u8; ROOM],
-        _marks: &mut [u8; RECORDS],
-    ) -> Ran<u8> {
-        take_all(trace, answers)
     }
 }
 
@@ -180,23 +158,18 @@ fn prints<M: Traced<ROOM, ROOM> + Drop>(model: M, lines: &[u8]) -> bool {
 
 #[test]
 fn a_chunk_is_shown(rt: HostRuntime) {
-    let right = Cell::new(false);
-    let model = ByChunk { right: &right };
+    let agrees = Cell::new(false);
+    let model = ByChunk { agrees: &agrees };
     assert!(rt; prints(model, b"0 010203\n1 040506\n"));
-    assert!(rt; right.get());
+    assert!(rt; agrees.get());
 }
 
 #[test]
 fn whole_rooms_are_shown(rt: HostRuntime) {
-    let right = Cell::new(false);
-    let model = ByRooms { right: &right };
+    let agrees = Cell::new(false);
+    let model = ByRooms { agrees: &agrees };
     assert!(rt; prints(model, b"0 AAAAAA\n1 AAAAAA\n"));
-    assert!(rt; right.get());
-}
-
-#[test]
-fn answers_are_shown_by_default(rt: HostRuntime) {
-    assert!(rt; prints(Silent, b"0 AAAAAA\n1 AAAAAA\n"));
+    assert!(rt; agrees.get());
 }
 
 fn is_answer(shown: Shown<'_>, bytes: &[u8]) -> bool {
@@ -209,13 +182,15 @@ fn is_answer(shown: Shown<'_>, bytes: &[u8]) -> bool {
 // No length of the chunk is that of a room.
 #[test]
 fn each_default_shows_the_answers(rt: HostRuntime) {
-    let mut model = Silent;
+    let agrees = Cell::new(false);
     let chunk = Chunk {
         trace: &[1, 2, 3],
         answers: &[4, 5, 6, 7],
         marks: &[0],
     };
-    assert!(rt; is_answer(model.show(BEFORE, chunk), &[4, 5, 6, 7]));
-    let shown = model.show_rooms(BEFORE, &WHOLE_ROOM, &ANSWERS, &[0, 0]);
+    let mut by_rooms = ByRooms { agrees: &agrees };
+    assert!(rt; is_answer(by_rooms.show(BEFORE, chunk), &[4, 5, 6, 7]));
+    let mut by_chunk = ByChunk { agrees: &agrees };
+    let shown = by_chunk.show_rooms(BEFORE, &WHOLE_ROOM, &ANSWERS, &[0, 0]);
     assert!(rt; is_answer(shown, &ANSWERS));
 }

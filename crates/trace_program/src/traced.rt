@@ -47,7 +47,7 @@ pub trait Traced<const BYTES: usize, const ANSWERS: usize> {
         marks: &mut [u8; RECORDS],
     ) -> Ran<Self::State>;
 
-    // The loop asks `show`, or, where this is true, `show_rooms` in its place: a model that has one says so here.
+    // The loop asks `show`, or, where this is true, `show_rooms` in its place: a model with one of its own says so here.
     const SHOWS_ROOMS: bool = false;
 
     // What the lines of a chunk show, by the state before it. The chunk has as much of the trace as came, the whole room for answers,
